@@ -1,0 +1,5 @@
+pub mod Words
+pub mod Compression
+pub mod Stream
+pub mod Finish
+pub mod Keys

@@ -1,0 +1,6 @@
+-- The two standards, what a stream holds, and the answers of the two calls; then laws for other crates to cite.
+pub mod Sha256
+pub mod Hmac
+pub mod Stream
+pub mod Digest
+pub mod Laws

@@ -1,0 +1,57 @@
+-- Runs of one value and stores one after the other: a list filled from a place on, and what stands in it then.
+use mathlib.Core.Path.{_≡_, sym, ap, _∙_}
+use mathlib.Core.List.{List, [], _∷_, _++_, append-assoc, append-nil}
+use Prim.Native.Nat.{ℕ, suc, _+_, _-_, _≤_, _<_}
+use native.Mathlib.Nat.{zero-add}
+use native.Mathlib.Numerals.{add-one}
+use native.Mathlib.Omega.{arith}
+use lib.ListN.{length, length-append, take, drop, set, replicate, length-replicate, replicate-append-replicate}
+use lib.ListN.{drop-of-length-le}
+use lib.Seq.{take-suc-set, take-set-le, take-length, take-at, drop-at, length-take-le, paste, sets, sets-eq}
+
+-- a run that is longer by one
+pub replicate-more : (n v : ℕ) → replicate (n + 1) v ≡ replicate n v ++ v ∷ []
+replicate-more n v = sym (replicate-append-replicate n 1 v)
+
+-- a run without its first n
+pub drop-replicate : (n m v : ℕ) → n ≤ m → drop n (replicate m v) ≡ replicate (m - n) v
+drop-replicate n m v h =
+    let e : m ≡ n + (m - n) = omega arith in
+    ap (λ k. drop n (replicate k v)) e ∙ ap (drop n) (sym (replicate-append-replicate n (m - n) v))
+    ∙ drop-at (replicate n v) (replicate (m - n) v) n (length-replicate n v)
+
+-- a store at i where d and a run of v from b on stand before it: the run is longer by one
+pub fill-step : (p d : List ℕ) (b i v : ℕ) → b ≤ i → i < length p → take i p ≡ d ++ replicate (i - b) v
+    → take (i + 1) (set p i v) ≡ d ++ replicate (i + 1 - b) v
+fill-step p d b i v h hp e =
+    let n : i + 1 - b ≡ (i - b) + 1 = omega arith in
+    rw (n, replicate-more, add-one i, take-suc-set p i v hp, e, append-assoc)
+
+-- a store at u, and behind it a run of none
+pub fill-none : (p : List ℕ) (u v w : ℕ) → u < length p
+    → take (u + 1) (set p u v) ≡ take u (set p u v) ++ v ∷ [] ++ replicate (u + 1 - (u + 1)) w
+fill-none p u v w h =
+    let z : u + 1 - (u + 1) ≡ 0 = omega arith in
+    let s : take u (set p u v) ≡ take u p = take-set-le u p u v (omega arith) in
+    rw (z, append-nil (take u (set p u v) ++ v ∷ []), add-one u, take-suc-set p u v h, s)
+
+-- stores from i on up to the end of the list
+pub sets-end : (vs p : List ℕ) (i : ℕ) → length p ≡ i + length vs → sets p i vs ≡ take i p ++ vs
+sets-end vs p i e =
+    sets-eq vs p i (omega arith) ∙ rw (drop-of-length-le p {i = i + length vs} (omega arith), append-nil)
+
+-- four stores in a row, from k on
+pub sets-four : (p : List ℕ) (k a b c d : ℕ) → k + 4 ≤ length p
+    → take (k + 4) (set (set (set (set p k a) (k + 1) b) (k + 2) c) (k + 3) d) ≡ take k p ++ (a ∷ b ∷ c ∷ d ∷ [])
+sets-four p k a b c d h =
+    let v : List ℕ = a ∷ b ∷ c ∷ d ∷ [] in
+    let e₂ : k + 2 ≡ suc (suc k) = omega arith in
+    let e₃ : k + 3 ≡ suc (suc (suc k)) = omega arith in
+    let l : length (take k p ++ v) ≡ k + 4 =
+    length-append (take k p) v ∙ ap (λ (n : ℕ). n + 4) (length-take-le k p (omega arith)) in
+    rw (add-one k, e₂, e₃) (ap (take (k + 4)) (sets-eq v p k h) ∙ take-at (take k p ++ v) (drop (k + 4) p) (k + 4) l)
+
+-- a list put at the start of a run
+pub paste-replicate : (k : List ℕ) (n v : ℕ) → length k ≤ n
+    → paste (replicate n v) 0 k (length k) ≡ k ++ replicate (n - length k) v
+paste-replicate k n v h = rw (zero-add (length k), take-length k, drop-replicate (length k) n v h)

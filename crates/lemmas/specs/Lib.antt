@@ -1,0 +1,9 @@
+-- General definitions and their laws, cited by every other crate. No product meaning.
+pub mod Tests
+pub mod Lists
+pub mod ListLaws
+pub mod Parts
+pub mod Rows
+pub mod BigEndian
+pub mod Fill
+pub mod Bits

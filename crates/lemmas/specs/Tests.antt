@@ -1,0 +1,94 @@
+-- Tests on numbers, worded as rules word them, and what a test that passed or failed tells.
+use mathlib.Core.Path.{_≡_, refl, ap}
+use mathlib.Core.Logic.{_⊎_, inl, inr}
+use mathlib.Core.Bool.{Bool, true, false, not, _&&_, _||_, true≢false, false≢true}
+use mathlib.Core.List.{List, [], _∷_}
+use Prim.Native.Nat.{ℕ, zero, suc}
+use native.Mathlib.Omega.{arith}
+use lib.Dec.{ltb, eqb}
+use lib.ListN.{getD}
+use borrow.Author.Tests.{ltb-true, ltb-false, leb-true, leb-false, eqb-true, eqb-false}
+
+infix 40 _over_ _under_ _is_ _isnt_
+abbrev pub _over_ : ℕ → ℕ → Bool
+a over b = ltb b a
+
+abbrev pub _under_ : ℕ → ℕ → Bool
+a under b = ltb a b
+
+abbrev pub _is_ : ℕ → ℕ → Bool
+a is b = eqb a b
+
+abbrev pub _isnt_ : ℕ → ℕ → Bool
+a isnt b = not (eqb a b)
+
+-- arithmetic with what tests tell: `omega tests`
+pub ruleset tests = (arith, ltb-true, ltb-false, leb-true, leb-false, eqb-true, eqb-false)
+
+-- ---- and, or
+pub and-l : (a b : Bool) → (a && b) ≡ true → a ≡ true
+and-l true b e = refl
+and-l false b e = e
+
+pub and-r : (a b : Bool) → (a && b) ≡ true → b ≡ true
+and-r true b e = e
+and-r false b e = absurd (false≢true e)
+
+pub both : {a b : Bool} → a ≡ true → b ≡ true → (a && b) ≡ true
+both {a} {b} e f = rw e f
+
+-- a test that fails, the first part of it passing
+pub and-false : (a b : Bool) → a ≡ true → (a && b) ≡ false → b ≡ false
+and-false true b e h = h
+and-false false b e h = absurd (false≢true e)
+
+pub or-l : (a b : Bool) → (a || b) ≡ false → a ≡ false
+or-l true b e = e
+or-l false b e = refl
+
+pub or-r : (a b : Bool) → (a || b) ≡ false → b ≡ false
+or-r true b e = absurd (true≢false e)
+or-r false b e = e
+
+pub or-cases : (a b : Bool) → (a || b) ≡ true → (a ≡ true) ⊎ (b ≡ true)
+or-cases true b e = inl refl
+or-cases false b e = inr e
+
+pub or-intro-l : (a b : Bool) → a ≡ true → (a || b) ≡ true
+or-intro-l a b e = rw e refl
+
+pub or-intro-r : (a b : Bool) → b ≡ true → (a || b) ≡ true
+or-intro-r true b e = refl
+or-intro-r false b e = e
+
+pub bool-cases : (b : Bool) → (b ≡ true) ⊎ (b ≡ false)
+bool-cases true = inl refl
+bool-cases false = inr refl
+
+-- ---- a list of tests: any of them passes. It computes to t || u || ..
+abbrev pub anyFrom : Bool → List Bool → Bool
+anyFrom t [] = t
+anyFrom t (u ∷ us) = anyFrom (t || u) us
+
+abbrev pub any : List Bool → Bool
+any [] = false
+any (t ∷ ts) = anyFrom t ts
+
+none-from : (t : Bool) (us : List Bool) → anyFrom t us ≡ false → (t ≡ false) × ((k : ℕ) → getD us k false ≡ false)
+none-from t [] h = (h, λ k. refl)
+none-from t (u ∷ us) h =
+    let r = none-from (t || u) us h in
+    (or-l t u (r .0), λ k. at k (or-r t u (r .0)) (r .1))
+  where
+    at : (k : ℕ) → u ≡ false → ((k : ℕ) → getD us k false ≡ false) → getD (u ∷ us) k false ≡ false
+    at zero e f = e
+    at (suc k) e f = f k
+
+-- none passes: test k does not
+pub none-of : (ts : List Bool) → any ts ≡ false → (k : ℕ) → getD ts k false ≡ false
+none-of [] h k = refl
+none-of (t ∷ ts) h k = at k (none-from t ts h .0) (none-from t ts h .1)
+  where
+    at : (k : ℕ) → t ≡ false → ((k : ℕ) → getD ts k false ≡ false) → getD (t ∷ ts) k false ≡ false
+    at zero e f = e
+    at (suc k) e f = f k

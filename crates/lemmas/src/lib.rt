@@ -1,0 +1,1 @@
+// General definitions and laws stand in specs/. This crate has no code.

@@ -1,0 +1,109 @@
+-- The gate's two answers, for any drive whatever: it grants exactly where no row applies (`exact`), and what a
+-- refusal leaves (`demand1`).
+use mathlib.Core.Path.{_∙_, _≡_, ap, refl, subst, sym}
+use mathlib.Core.Logic.{_⊎_, inl, inr}
+use mathlib.Core.Bool.{Bool, cond, false, true}
+use mathlib.Core.List.{[], _++_, List}
+use Prim.Native.Nat.{ℕ}
+use native.Mathlib.Omega.{arith}
+use lib.Dec.{leb}
+use borrow.Author.Tests.{eq-eqb, eqb-false, eqb-true, ne-eqb}
+use Rattle.lemmas.specs.ListLaws.{nth-map}
+use Rattle.lemmas.specs.Lists.{every, keep}
+use Rattle.lemmas.specs.Rows.{clear-zero, firstRow, line, numbered, Row, row-below, row-isnt, row-next, zero-clear}
+use Rattle.lemmas.specs.Tests.{_is_, bool-cases}
+use Rattle.rules.specs.Demands.{Demand1, Exact, MarkAndOutlived}
+use Rattle.rules.specs.Drive.{Drive, lives, newHighWater, refresh}
+use Rattle.rules.specs.Frame.{fields}
+use Rattle.rules.specs.Gate.{Answer, Call, gate, granted, left, refused}
+use Rattle.rules.specs.Rows.{driveRows, frameRows, row1, rows}
+
+module _ (d : Drive) (m : List ℕ) (c : Call) where
+  abbrev table : List Row
+  table = rows d m (c .frame) (c .clock) (c .space)
+
+  abbrev fresh : Drive
+  fresh = refresh (c .clock) d
+
+  pub gate-granted : firstRow table ≡ 0 → gate d m c ≡ granted fresh m (fields (c .frame)) (c .space)
+  unfolding gate
+  gate-granted e = rw (eq-eqb (firstRow table) 0 e) refl
+
+  pub gate-refused : (firstRow table ≡ 0 → ⊥) → gate d m c
+      ≡ refused (firstRow table) (left (firstRow table) (c .clock) d) m (c .space)
+  unfolding gate
+  gate-refused e = rw (ne-eqb (firstRow table) 0 e) refl
+
+  -- the row returned is the first that applies
+  pub gate-row : gate d m c .row ≡ firstRow table
+  unfolding granted
+  gate-row = go (bool-cases (firstRow table is 0))
+    where
+      go : (firstRow table is 0 ≡ true) ⊎ (firstRow table is 0 ≡ false) → gate d m c .row ≡ firstRow table
+      go (inl k) =
+          let e : firstRow table ≡ 0 = eqb-true (firstRow table) 0 k in
+          ap Answer.row (gate-granted e) ∙ sym e
+      go (inr k) = ap Answer.row (gate-refused (eqb-false (firstRow table) 0 k))
+
+  numbers : numbered table ≡ true
+  unfolding rows frameRows driveRows every
+  numbers = refl
+
+  below : every (λ (r : Row). leb (r .row) 23) table ≡ true
+  unfolding rows frameRows driveRows every
+  below = refl
+
+  pub exact : Exact d m c
+  exact = record {
+    grants = (λ e. zero-clear table numbers (sym gate-row ∙ e), λ e. gate-row ∙ clear-zero table e);
+    grant = λ e. gate-granted (sym gate-row ∙ e);
+    row = gate-row;
+  }
+
+  -- ---- demand 1
+  -- row 1 returns the very drive
+  unchanged : gate d m c .row ≡ 1 → gate d m c .drive ≡ d
+  unchanged e =
+      let r : firstRow table ≡ 1 = sym gate-row ∙ e in
+      ap Answer.drive (gate-refused (λ z. let k : _≡_ {A = ℕ} 0 1 = sym z ∙ r in omega arith))
+      ∙ ap (λ (n : ℕ). left n (c .clock) d) r
+
+  -- an unchanged drive, and one with its new mark
+  same-drive : MarkAndOutlived d d
+  same-drive = record { size = refl; keys = refl; partitions = refl; mark = omega arith; memories = λ k. inl refl }
+
+  fresh-drive : MarkAndOutlived d fresh
+  unfolding refresh keep
+  fresh-drive = record {
+    size = refl;
+    keys = refl;
+    partitions = refl;
+    mark = omega arith;
+    memories = λ k. inr (nth-map (keep (lives (newHighWater (d .tables .highWater) (c .clock)))) (d .memories) k []);
+  }
+
+  left-drive : (b : Bool) → MarkAndOutlived d (cond b d fresh)
+  left-drive true = same-drive
+  left-drive false = fresh-drive
+
+  pub demand1 : Demand1 d m c
+  demand1 = record {
+    row = rw gate-row (row-below 23 table below);
+    length = λ e. ap Answer.length (gate-refused (λ z. e (gate-row ∙ z)));
+    space = λ e. ap Answer.space (gate-refused (λ z. e (gate-row ∙ z)));
+    medium = λ e. ap Answer.medium (gate-refused (λ z. e (gate-row ∙ z)));
+    drive = λ e.
+        subst (λ (a : Answer). MarkAndOutlived d (a .drive)) (sym (gate-refused (λ z. e (gate-row ∙ z))))
+        (left-drive (firstRow table is 1));
+    unchanged = unchanged;
+  }
+
+  -- ---- a sound drive and its own medium: row 1 does not apply, and a refusal leaves the new mark
+  pub ready-left : row1 d m ≡ false → left (firstRow table) (c .clock) d ≡ fresh
+  unfolding rows frameRows driveRows every
+  ready-left h =
+      let rest : List Row = frameRows (c .frame) (fields (c .frame))
+      ++ driveRows fresh (fields (c .frame)) (c .space) in
+      let e : (firstRow table is 1) ≡ false = ap (λ (n : ℕ). n is 1) (row-next (line 1 (row1 d m)) rest h)
+      ∙ row-isnt 1 rest refl refl in
+      rw e refl

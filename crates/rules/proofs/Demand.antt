@@ -1,0 +1,262 @@
+-- Demand 3.
+use mathlib.Core.Path.{_∙_, _≡_, ap, refl, subst, subst₂, sym}
+use mathlib.Core.Logic.{_⊎_, inl, inr}
+use mathlib.Core.Bool.{_||_, Bool, cond, false, false≢true, true}
+use mathlib.Core.Option.{none, some}
+use mathlib.Core.List.{[], _++_, _∷_, List, List·Memᴰ, List·Memᴰ·not-nil}
+use Prim.Native.Nat.{_+_, _<_, _≤_, ℕ}
+use native.Mathlib.Decide.{decLt, ℕ-discrete}
+use native.Mathlib.Omega.{arith}
+use lib.Dec.{leb}
+use lib.ListN.{length, length-map, length-replicate, List·getD-eq-default, replicate}
+use borrow.Author.Tests.{eq-eqb, eqb-true, leb-true, ltb-false}
+use Rattle.lemmas.specs.ListLaws.{every-member, every-nth, pairs-members}
+use Rattle.lemmas.specs.Lists.{every}
+use Rattle.lemmas.specs.Rows.{applies, firstRow, none-applies}
+use Rattle.lemmas.specs.Tests.{_is_, _isnt_, and-r, both, or-cases}
+use Rattle.rules.specs.declared.Object.{Object}
+use Rattle.rules.specs.Demands.{
+  after,
+  Agrees,
+  AllOfDemand3,
+  Demand3,
+  fed,
+  from,
+  Has,
+  Nonce,
+  nonce,
+  State,
+  step,
+  to,
+}
+use Rattle.rules.specs.Drive.{
+  apart,
+  format,
+  formatRows,
+  Formatted,
+  newDrive,
+  newTables,
+  Partition,
+  partitionAt,
+  quarter,
+  soundObject,
+  soundPartition,
+  Tables,
+  unused,
+}
+use Rattle.rules.specs.Frame.{fields}
+use Rattle.rules.specs.Gate.{Call}
+use Rattle.rules.specs.Ledger.{bare, feed, Held, Ledger, ledger, start, tablesOf}
+use Rattle.rules.specs.Rows.{bounds}
+use Rattle.rules.proofs.Clear.{bound}
+use Rattle.rules.proofs.Holds.{quarter-below}
+use Rattle.rules.proofs.Known.{granted-known, Known, known-not-granted, step-known}
+use Rattle.rules.proofs.Shown.{read-shown}
+use Rattle.rules.proofs.Sound.{
+  at-sound,
+  object-is,
+  partition-is,
+  SoundObject,
+  SoundPartition,
+  SoundTables,
+  unused-sound,
+}
+use Rattle.rules.proofs.Step.{fedOf, fresh-inv, Inv, inv-sound, row-zero, step-inv}
+
+-- ---- format
+empty : {A : Type 0} → List A → Bool
+empty [] = true
+empty (x ∷ xs) = false
+
+not-empty : {A : Type 0} (l : List A) (a : A) → empty l ≡ true → List·Memᴰ a l → ⊥
+unfolding empty
+not-empty [] a e k = List·Memᴰ·not-nil k
+not-empty (x ∷ xs) a e k = false≢true e
+
+module _ (medium : List ℕ) (F : ℕ) (master drive : List ℕ) where
+  row : ℕ
+  row = firstRow (formatRows medium F master drive)
+
+  made : Formatted
+  made = record {
+    row = 0;
+    drive = newDrive (length medium) (newTables F (some master) (some drive));
+    medium =
+        replicate (length medium) 0;
+  }
+
+  formatted : format medium F master drive .row ≡ 0 → row ≡ 0
+  unfolding format row made
+  formatted e = go (row is 0) refl e
+    where
+      go : (b : Bool) → (row is 0) ≡ b
+          → cond b made (record { row = row; drive = newDrive 0 (newTables 0 none none); medium = medium }) .row ≡ 0
+          → row ≡ 0
+      go true k h = eqb-true row 0 k
+      go false k h = h
+
+  format-made : row ≡ 0 → format medium F master drive ≡ made
+  unfolding format row made
+  format-made e = rw (eq-eqb row 0 e) refl
+
+  small : row ≡ 0 → length medium ≤ 16777216
+  unfolding row formatRows applies every
+  small e = ltb-false 16777216 (length medium) (none-applies (formatRows medium F master drive) refl e 24)
+
+  start-inv : row ≡ 0 → Inv (length medium) (record { drive = made .drive; medium = made .medium })
+      (start F master drive)
+  unfolding made start tablesOf every empty
+  start-inv e = record {
+    small = small e;
+    size = refl;
+    tables = refl;
+    good = record {
+      size = length-replicate (length medium) 0;
+      four = refl;
+      sound = both u (both u (both u (both u refl)));
+      bytes = λ p h k. absurd (not-empty (partitionAt (start F master drive) p .objects) h
+          (every-nth (λ (r : Partition Held). empty (r .objects)) (start F master drive .partitions) p
+          (unused 0) refl refl) k);
+    };
+    five = refl;
+    short = refl;
+  }
+    where
+      u : soundPartition (quarter (length medium)) (unused F) ≡ true
+      u = unused-sound (quarter (length medium)) F
+
+-- ---- lists of calls
+run-inv : (M : ℕ) (s : State) (l : Ledger) (cs : List Call) → Inv M s l → Inv M (after s cs) (ledger M l (fed s cs))
+unfolding after ledger fed
+run-inv M s l [] v = v
+run-inv M s l (c ∷ cs) v = run-inv M (step s c) (feed M l (fedOf s c)) cs (step-inv M s l c v)
+
+run-known : (M : ℕ) (s : State) (l : Ledger) (cs : List Call) (n : Nonce) → Inv M s l → Known n (s .drive)
+    → Known n (after s cs .drive)
+unfolding after
+run-known M s l [] n v k = k
+run-known M s l (c ∷ cs) n v k = run-known M (step s c) (feed M l (fedOf s c)) cs n (step-inv M s l c v)
+    (step-known M s l c v n k)
+
+after-append : (s : State) (a : List Call) (c : Call) (b : List Call)
+    → after s (a ++ (c ∷ b)) ≡ after (step (after s a) c) b
+unfolding after
+after-append s [] c b = refl
+after-append s (x ∷ xs) c b = after-append (step s x) xs c b
+
+-- ---- what demand 3 says of areas
+bare-count : (l : Ledger) → length (tablesOf l .partitions) ≡ length (l .partitions)
+unfolding tablesOf
+bare-count l = length-map (l .partitions) bare
+
+pub agree : (M : ℕ) (s : State) (l : Ledger) → Inv M s l → Agrees M s l
+agree M s l v = record {
+  tables = v .tables;
+  bytes = v .good .bytes;
+  inside = λ p a k. (four p a k, (omega arith, omega (arith, object p a k .inside)));
+  disjoint = λ p r a b j k ne. meet p r a b j k ne (ℕ-discrete p r);
+  sound = inv-sound M s l v;
+}
+  where
+    t : Tables Object
+    t = s .drive .tables
+
+    at : (p : ℕ) → SoundPartition (quarter M) (partitionAt t p)
+    at p = partition-is (quarter M) (partitionAt t p)
+        (at-sound (quarter M) t p (subst (SoundTables (quarter M)) (sym (v .tables)) (v .good .sound)))
+
+    object : (p : ℕ) (a : Object) → Has s p a → SoundObject (quarter M) (partitionAt t p .last) a
+    object p a k = object-is (quarter M) (partitionAt t p .last) a
+        (every-member (soundObject (quarter M) (partitionAt t p .last)) (partitionAt t p .objects) a (at p .each) k)
+
+    four : (p : ℕ) (a : Object) → Has s p a → p < 4
+    four p a k = go (decLt p 4)
+      where
+        count : length (t .partitions) ≡ 4
+        count = ap (λ (u : Tables Object). length (u .partitions)) (v .tables) ∙ bare-count l ∙ v .good .four
+
+        go : Dec (p < 4) → p < 4
+        go (yes e) = e
+        go (no e) =
+            absurd (List·Memᴰ·not-nil (subst (λ (r : Partition Object). List·Memᴰ a (r .objects))
+            (List·getD-eq-default (t .partitions) (unused 0) {n = p} (omega (arith, count))) k))
+
+    ways : (p : ℕ) (a b : Object) → apart a b ≡ true → (to M p a ≤ from M p b) ⊎ (to M p b ≤ from M p a)
+    ways p a b e =
+        go (or-cases (leb (a .start + a .size) (b .start)) (leb (b .start + b .size) (a .start))
+        (and-r (a .number isnt b .number) (leb (a .start + a .size) (b .start) || leb (b .start + b .size) (a .start))
+        e))
+      where
+        go : (leb (a .start + a .size) (b .start) ≡ true) ⊎ (leb (b .start + b .size) (a .start) ≡ true)
+            → (to M p a ≤ from M p b) ⊎ (to M p b ≤ from M p a)
+        go (inl k) = inl (omega (arith, leb-true (a .start + a .size) (b .start) k))
+        go (inr k) = inr (omega (arith, leb-true (b .start + b .size) (a .start) k))
+
+    swap : {A B : Type 0} → A ⊎ B → B ⊎ A
+    swap (inl x) = inr x
+    swap (inr x) = inl x
+
+    one : (p : ℕ) (a b : Object) → (a .number ≡ b .number → ⊥) → (a ≡ b) ⊎ ((apart a b ≡ true) ⊎ (apart b a ≡ true))
+        → (to M p a ≤ from M p b) ⊎ (to M p b ≤ from M p a)
+    one p a b ne (inl e) = absurd (ne (ap Object.number e))
+    one p a b ne (inr (inl e)) = ways p a b e
+    one p a b ne (inr (inr e)) = swap (ways p b a e)
+
+    meet : (p r : ℕ) (a b : Object) → Has s p a → Has s r b → (p ≡ r → a .number ≡ b .number → ⊥) → Dec (p ≡ r)
+        → (to M p a ≤ from M r b) ⊎ (to M r b ≤ from M p a)
+    meet p r a b j k ne (yes e) =
+        subst (λ (n : ℕ). (to M p a ≤ from M n b) ⊎ (to M n b ≤ from M p a)) e
+        (one p a b (ne e) (pairs-members apart (partitionAt t p .objects) a b (at p .pair) j
+        (subst (λ (n : ℕ). Has s n b) (sym e) k)))
+    meet p r a b j k ne (no e) = go (decLt p r)
+      where
+        go : Dec (p < r) → (to M p a ≤ from M r b) ⊎ (to M r b ≤ from M p a)
+        go (yes h) = inl (omega (arith, quarter-below (quarter M) p r h, object p a j .inside))
+        go (no h) =
+            let h′ : r < p = omega arith in
+            inr (omega (arith, quarter-below (quarter M) r p h′, object r b k .inside))
+
+-- ---- demand 3, from any state and ledger of which the invariant holds
+demand : (M : ℕ) (s : State) (l : Ledger) (calls : List Call) → Inv M s l → Demand3 M s l calls
+demand M s l calls v = record {
+  noRepeat = λ before between later c d e gc gd same.
+      let u = run-inv M s l before v in
+      let k : Known (nonce c) (after (step (after s before) c) between .drive) =
+      run-known M (step (after s before) c) (feed M (ledger M l (fed s before)) (fedOf (after s before) c)) between
+      (nonce c)
+      (step-inv M (after s before) (ledger M l (fed s before)) c u)
+      (granted-known M (after s before) (ledger M l (fed s before)) c u gc) in
+      known-not-granted M (after s (before ++ (c ∷ between))) (ledger M l (fed s (before ++ (c ∷ between)))) d
+      (run-inv M s l (before ++ (c ∷ between)) v)
+      (subst₂ (λ (n : Nonce) (w : State). Known n (w .drive)) same (sym (after-append s before c between)) k) gd;
+  kept = λ before later c e g.
+      let u = run-inv M s l before v in
+      subst (λ (t : Tables Object). firstRow (bounds t (fields (c .frame))) ≡ 0)
+      (fresh-inv M (after s before) (ledger M l (fed s before)) c u .tables)
+      (bound (after s before .drive) (after s before .medium) (c .frame) (c .clock) (c .space)
+      (row-zero M (after s before) (ledger M l (fed s before)) c u g));
+  shown = λ before later c e g o. read-shown M (after s before) (ledger M l (fed s before)) c
+      (run-inv M s l before v) g o;
+  agrees = λ before later e. agree M (after s before) (ledger M l (fed s before)) (run-inv M s l before v);
+}
+
+pub format-inv : (medium : List ℕ) (F : ℕ) (master drive : List ℕ) → format medium F master drive .row ≡ 0
+    → Inv (length medium) (record {
+      drive = format medium F master drive .drive;
+      medium =
+          format medium F master drive .medium;
+    }) (start F master drive)
+format-inv medium F master drive e =
+    let r : row medium F master drive ≡ 0 = formatted medium F master drive e in
+    subst (λ (f : Formatted). Inv (length medium) (record { drive = f .drive; medium = f .medium })
+    (start F master drive))
+    (sym (format-made medium F master drive r)) (start-inv medium F master drive r)
+
+pub demand3 : AllOfDemand3
+demand3 medium F master drive calls e =
+    demand (length medium) (record {
+      drive = format medium F master drive .drive;
+      medium =
+          format medium F master drive .medium;
+    }) (start F master drive) calls
+    (format-inv medium F master drive e)

@@ -1,0 +1,55 @@
+-- The replay memories: a grant's entry is there and drops no other; an entry stays while its time and 5,000 are at
+-- least the mark; row 22
+-- leaves room for one more.
+use mathlib.Core.Path.{_≡_, refl}
+use mathlib.Core.Bool.{Bool, false, true}
+use mathlib.Core.List.{[], _∷_, List}
+use Prim.Native.Nat.{_+_, _<_, ℕ}
+use native.Mathlib.Omega.{arith}
+use lib.Dec.{eqb, leb}
+use lib.ListN.{length, length-append}
+use borrow.Author.Tests.{eq-eqb, eqb-true, le-leb}
+use Rattle.lemmas.specs.ListLaws.{some-append-l, some-append-r}
+use Rattle.lemmas.specs.Lists.{some?}
+use Rattle.lemmas.specs.Tests.{and-l, and-r, both, tests}
+use Rattle.rules.specs.declared.Entry.{Entry}
+use Rattle.rules.specs.Drive.{Drive, lives, sameEntry}
+use Rattle.rules.specs.Frame.{entry, Fields}
+use Rattle.rules.specs.Operations.{remember}
+use Rattle.rules.specs.Rows.{remembered, row22}
+
+pub remember-length : (x : Fields) (l : List Entry) → length (remember x l) ≡ length l + 1
+unfolding remember
+remember-length x l = length-append l (entry x ∷ [])
+
+pub remember-keeps : (t : Entry → Bool) (x : Fields) (l : List Entry) → some? t l ≡ true
+    → some? t (remember x l) ≡ true
+unfolding remember
+remember-keeps t x l h = some-append-l t l (entry x ∷ []) h
+
+pub remember-has : (t : Entry → Bool) (x : Fields) (l : List Entry) → t (entry x) ≡ true
+    → some? t (remember x l) ≡ true
+unfolding remember
+remember-has t x l h = some-append-r t l (entry x) h
+
+-- a memory of at most 64 entries that row 22 does not refuse has fewer
+pub room-left : (d : Drive) (x : Fields) → row22 d x ≡ false → leb (length (remembered d x)) 64 ≡ true
+    → length (remembered d x) < 64
+unfolding row22
+room-left d x h k = omega tests
+
+-- ---- entries
+eqb-self : (n : ℕ) → eqb n n ≡ true
+eqb-self n = eq-eqb n n refl
+
+same-time : (a b : Entry) → sameEntry a b ≡ true → a .time ≡ b .time
+unfolding sameEntry
+same-time a b e = eqb-true (a .time) (b .time) (search (and-l, and-r))
+
+pub same-entry : (a : Entry) → sameEntry a a ≡ true
+unfolding sameEntry
+same-entry a = search (both, eqb-self)
+
+-- an entry whose time and 5,000 are not under the mark is not dropped
+pub still-lives : (mark : ℕ) (a e : Entry) → (a .time + 5000 < mark → ⊥) → sameEntry a e ≡ true → lives mark e ≡ true
+still-lives mark a e h s = le-leb mark (e .time + 5000) (omega (arith, same-time a e s))

@@ -1,0 +1,266 @@
+-- Demand 2: the reply that the gate's rules give to a built frame is one that the reply check accepts, with that
+-- result.
+use mathlib.Core.Path.{_∙_, _≡_, ap, refl, subst, sym}
+use mathlib.Core.Bool.{_&&_, _||_, Bool, cond, false, not, true}
+use mathlib.Core.Option.{Option, Option·getD}
+use mathlib.Core.List.{_++_, append-assoc, List}
+use Prim.Native.Nat.{_+_, _≤_, ℕ}
+use native.Mathlib.Omega.{arith}
+use lib.ListN.{drop, length, length-append, take}
+use lib.Seq.{drop-at, take-all, take-at}
+use borrow.Author.Tests.{eq-eqb, le-ltb, leb-true}
+use Rattle.lemmas.specs.BigEndian.{bigEndian}
+use Rattle.lemmas.specs.ListLaws.{every-member, found}
+use Rattle.lemmas.specs.Lists.{part, same, splice}
+use Rattle.lemmas.specs.Parts.{length-part}
+use Rattle.lemmas.specs.Rows.{firstRow}
+use Rattle.lemmas.specs.Tests.{_is_, _isnt_, _over_, and-l, and-r, or-intro-l}
+use Rattle.rules.specs.declared.Object.{Object}
+use Rattle.rules.specs.declared.Request.{Request}
+use Rattle.rules.specs.Client.{badRecords, buildRows, check, checkRows, frameOf, row30}
+use Rattle.rules.specs.Demands.{RepliesBack}
+use Rattle.digest.specs.Hmac.{hmac}
+use Rattle.digest.specs.Laws.{length-hmac}
+use Rattle.rules.specs.Drive.{Drive, Partition, partitionAt, quarter, refresh, sound, soundObject, Tables}
+use Rattle.rules.specs.Frame.{Fields, fields, operationOf, requestAt}
+use Rattle.rules.specs.Gate.{Answer, Call, gate, granted}
+use Rattle.rules.specs.Ledger.{start}
+use Rattle.rules.specs.Operations.{
+  credentialKey,
+  extentStart,
+  head,
+  headed,
+  named,
+  noObject,
+  objectOf,
+  reply,
+  replyCovered,
+  replyLength,
+  result,
+  resultLength,
+  sealed,
+}
+use Rattle.rules.specs.Rows.{moves, rows}
+use Rattle.rules.proofs.Answers.{gate-granted, gate-row}
+use Rattle.rules.proofs.Clear.{in-four, in-object, is-known, is-sound, read-moves, size-is, there}
+use Rattle.rules.proofs.Holds.{quarter-in}
+use Rattle.rules.proofs.RoundTrip.{built-fields, key-long, parts, records}
+use Rattle.rules.proofs.Shown.{reply-length, result-length}
+use Rattle.rules.proofs.Signed.{same-self}
+use Rattle.rules.proofs.Sound.{at-sound, object-is, partition-is, SoundObject, SoundTables}
+
+-- ---- the parts of a reply: head, result, and what follows
+module _ (h res tail : List ℕ) (n : ℕ) (lh : length h ≡ 8) (lr : length res ≡ n) where
+  front : length (h ++ res) ≡ 8 + n
+  front = length-append h res ∙ rw (lh, lr) refl
+
+  take-head : take 8 (h ++ res ++ tail) ≡ h
+  take-head = ap (take 8) (append-assoc h res tail) ∙ take-at h (res ++ tail) 8 lh
+
+  take-front : take (8 + n) (h ++ res ++ tail) ≡ h ++ res
+  take-front = take-at (h ++ res) tail (8 + n) front
+
+  part-result : part (h ++ res ++ tail) 8 n ≡ res
+  unfolding part
+  part-result = ap (λ (l : List ℕ). take n (drop 8 l)) (append-assoc h res tail)
+      ∙ rw (drop-at h (res ++ tail) 8 lh) (take-at res tail n lr)
+
+  part-tail : length tail ≡ 32 → part (h ++ res ++ tail) (8 + n) 32 ≡ tail
+  unfolding part
+  part-tail lt = rw (drop-at (h ++ res) tail (8 + n) front) (take-all 32 tail (omega arith))
+
+-- ---- a granted read lies inside the medium
+module _ (d : Drive) (m f : List ℕ) (clock : ℕ) (space : List ℕ) (g : firstRow (rows d m f clock space) ≡ 0) where
+  abbrev x : Fields
+  x = fields f
+
+  abbrev t : Tables Object
+  t = refresh clock d .tables
+
+  abbrev q : ℕ
+  q = quarter (d .size)
+
+  small : d .size ≤ 16777216
+  unfolding sound
+  small = leb-true (d .size) 16777216 (search (and-l, and-r, is-sound d m f clock space g))
+
+  sound-tables : SoundTables q t
+  unfolding sound refresh
+  sound-tables = search (and-l, and-r, is-sound d m f clock space g)
+
+  sound-named : moves (x .req) ≡ true → SoundObject q (partitionAt t (x .cred .partition) .last) (objectOf t x)
+  unfolding objectOf named
+  sound-named h =
+      let p : Partition Object = partitionAt t (x .cred .partition) in
+      let k = found Object.number (x .cred .object) (p .objects) (there d m f clock space g h) in
+      subst (SoundObject q (p .last)) (ap (λ (o : Option Object). Option·getD o noObject) (sym (k .1)))
+      (object-is q (p .last) (k .0) (every-member (soundObject q (p .last)) (p .objects) (k .0)
+      (partition-is q p (at-sound q t (x .cred .partition) sound-tables) .each) (k .2)))
+
+  pub read-room : moves (x .req) ≡ true → (extentStart q t x + x .req .A + x .req .B ≤ length m)
+      × (x .req .B ≤ 4194304)
+  unfolding extentStart
+  read-room h =
+      let s = sound-named h in
+      let i : x .req .A + x .req .B ≤ objectOf t x .size = in-object d m f clock space g h in (
+        omega (
+          arith,
+          s .inside,
+          quarter-in (d .size) (x .cred .partition)
+              (in-four d m f clock space g),
+          size-is d m f clock space g,
+        ),
+        omega (arith, s .inside, small),
+      )
+
+-- ---- the reply, checked
+module _
+    (d : Drive)
+    (m : List ℕ)
+    (c : Call)
+    (credential request payload key room : List ℕ)
+    (b : firstRow (buildRows credential request payload key room) ≡ 0)
+    (e : c .frame ≡ frameOf credential request payload key)
+    (a : gate d m c .row ≡ 0)
+    (k : key ≡ credentialKey (refresh (c .clock) d .tables .keys) (fields (c .frame)))
+  where
+    abbrev y : Fields
+    y = fields (c .frame)
+
+    abbrev u : Tables Object
+    u = refresh (c .clock) d .tables
+
+    abbrev z : ℕ
+    z = quarter (d .size)
+
+    abbrev res : List ℕ
+    res = result (operationOf y) z u y m
+
+    g : firstRow (rows d m (c .frame) (c .clock) (c .space)) ≡ 0
+    g = sym (gate-row d m c) ∙ a
+
+    same-fields : y ≡ parts credential request payload key room b
+    same-fields = ap fields e ∙ built-fields credential request payload key room b
+
+    abbrev r : Request
+    r = requestAt request 0
+
+    req-is : y .req ≡ r
+    req-is = ap Fields.req same-fields
+
+    length-res : length res ≡ resultLength (y .req)
+    length-res =
+        result-length (operationOf y) z u y m (is-known d m (c .frame) (c .clock) (c .space) g) refl
+        (λ o. length-part m (extentStart z u y + y .req .A) (y .req .B)
+        (read-room d m (c .frame) (c .clock) (c .space) g (read-moves d m (c .frame) (c .clock) (c .space) g o) .0))
+
+    abbrev whole : List ℕ
+    whole = reply (operationOf y) z u y m
+
+    length-whole : length whole ≡ replyLength (y .req)
+    length-whole = reply-length (operationOf y) z u y m length-res
+
+    -- what stands in the space is the reply
+    taken : take (gate d m c .length) (gate d m c .space) ≡ whole
+    unfolding granted splice refresh
+    taken =
+        ap (λ (n : Answer). take (n .length) (n .space)) (gate-granted d m c g)
+        ∙ take-at whole (drop (0 + length whole) (c .space)) (replyLength (y .req)) length-whole
+
+    -- ---- the three rows of the check
+    short : (resultLength (y .req) over 4194304) ≡ false
+    short = le-ltb 4194304 (resultLength (y .req)) (go (y .req .operation is 1) refl)
+      where
+        rest : (p o : Bool) → cond p 8 (cond o 4 0) ≤ 4194304
+        rest true o = omega arith
+        rest false true = omega arith
+        rest false false = omega arith
+
+        go : (i : Bool) → (y .req .operation is 1) ≡ i
+            → cond i (y .req .B) (cond (y .req .operation is 3) 8
+            (cond (y .req .operation is 4 || y .req .operation is 5) 4 0)) ≤ 4194304
+        go true h = read-room d m (c .frame) (c .clock) (c .space) g
+            (or-intro-l (y .req .operation is 1) (y .req .operation is 2) h) .1
+        go false h = rest (y .req .operation is 3) (y .req .operation is 4 || y .req .operation is 5)
+
+    abbrev top : List ℕ
+    top = head (y .req) (length res)
+
+    length-top : length top ≡ 8
+    unfolding head bigEndian
+    length-top = refl
+
+    abbrev tail : List ℕ
+    tail = sealed (u .keys) y res
+
+    whole-is : whole ≡ top ++ res ++ tail
+    unfolding reply headed
+    whole-is = refl
+
+    -- its head, its length, and at level 2 its digest are those that the request calls for
+    head-same : same (take 8 whole) (head (y .req) (resultLength (y .req))) ≡ true
+    head-same =
+        ap (λ (l : List ℕ). same l (head (y .req) (resultLength (y .req))))
+        (ap (take 8) whole-is ∙ take-head top res tail (resultLength (y .req)) length-top length-res
+        ∙ ap (head (y .req)) length-res)
+        ∙ same-self (head (y .req) (resultLength (y .req)))
+
+    digest-same : (y .req .level is 2) ≡ true
+        → same (part whole (8 + resultLength (y .req)) 32)
+        (hmac key (replyCovered (y .credential) (y .request) (take (8 + resultLength (y .req)) whole))) ≡ true
+    unfolding sealed headed
+    digest-same h =
+        let n : ℕ = resultLength (y .req) in
+        let sealed-is : tail ≡ hmac (credentialKey (u .keys) y)
+        (replyCovered (y .credential) (y .request) (top ++ res)) = rw h refl in
+        let long : length tail ≡ 32 = ap length sealed-is
+        ∙ length-hmac (credentialKey (u .keys) y) (replyCovered (y .credential) (y .request) (top ++ res)) in
+        let left : part whole (8 + n) 32 ≡ tail = ap (λ (l : List ℕ). part l (8 + n) 32) whole-is
+        ∙ part-tail top res tail n length-top length-res long in
+        let front : take (8 + n) whole ≡ top ++ res = ap (take (8 + n)) whole-is
+        ∙ take-front top res tail n length-top length-res in
+        rw (left, front, k, sealed-is) (same-self (hmac (credentialKey (u .keys) y)
+        (replyCovered (y .credential) (y .request) (top ++ res))))
+
+    abbrev wrong : Fields → Bool
+    wrong x =
+        not (same (take 8 whole) (head (x .req) (resultLength (x .req))))
+        || length whole isnt replyLength (x .req)
+        || (x .req .level is 2
+        && not (same (part whole (8 + resultLength (x .req)) 32)
+        (hmac key (replyCovered (x .credential) (x .request) (take (8 + resultLength (x .req)) whole)))))
+
+    right : wrong y ≡ false
+    right = rw (head-same, eq-eqb (length whole) (replyLength (y .req)) length-whole) (go (y .req .level is 2) refl)
+      where
+        go : (i : Bool) → (y .req .level is 2) ≡ i
+            → (i && not (same (part whole (8 + resultLength (y .req)) 32)
+            (hmac key (replyCovered (y .credential) (y .request) (take (8 + resultLength (y .req)) whole)))))
+            ≡ false
+        go true h = ap not (digest-same h)
+        go false h = refl
+
+    none : firstRow (checkRows credential request key whole) ≡ 0
+    unfolding checkRows row30 firstRow
+    none =
+        let h28 : (badRecords credential request || resultLength r over 4194304) ≡ false =
+        rw (records credential request payload key room b)
+        (subst (λ (q : Request). (resultLength q over 4194304) ≡ false) req-is short) in
+        let h30 : row30 credential request key whole ≡ false =
+        subst (λ (x : Fields). wrong x ≡ false) same-fields right in
+        rw (key-long credential request payload key room b, h28, h30) refl
+
+    pub replies-back : RepliesBack d m c credential request key
+    unfolding check
+    replies-back = record {
+      accepted =
+          ap (check credential request key) taken
+          ∙ rw (eq-eqb (firstRow (checkRows credential request key whole)) 0 none)
+          (λ i. record { row = 0; start = 8; length = resultLength r; result = result-part i });
+    }
+      where
+        result-part : part whole 8 (resultLength r) ≡ res
+        result-part =
+            subst (λ (q : Request). part whole 8 (resultLength q) ≡ res) req-is
+            (ap (λ (l : List ℕ). part l 8 (resultLength (y .req))) whole-is
+            ∙ part-result top res tail (resultLength (y .req)) length-top length-res)

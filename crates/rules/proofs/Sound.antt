@@ -1,0 +1,201 @@
+-- A grant leaves sound partitions sound.
+use mathlib.Core.Path.{_≡_, refl}
+use mathlib.Core.Bool.{Bool, cond, false, true}
+use mathlib.Core.List.{[], _∷_, List, map}
+use Prim.Native.Nat.{_+_, _<_, _≤_, ℕ}
+use native.Mathlib.Omega.{arith}
+use lib.ListN.{length, length-append, length-map}
+use borrow.Author.Tests.{le-leb, leb-true}
+use Rattle.lemmas.specs.ListLaws.{
+  every-and,
+  every-append,
+  every-imp,
+  every-keep,
+  every-map,
+  every-nth,
+  every-one,
+  every-update,
+  length-keep,
+  pairs-append-one,
+  pairs-keep,
+  pairs-map,
+}
+use Rattle.lemmas.specs.Lists.{change, every, pairs}
+use Rattle.lemmas.specs.Tests.{_is_, _isnt_, and-l, and-r, both}
+use Rattle.rules.specs.declared.Object.{Object}
+use Rattle.rules.specs.Drive.{
+  apart,
+  changed,
+  Partition,
+  partitionAt,
+  soundObject,
+  soundPartition,
+  Tables,
+  unused,
+}
+use Rattle.rules.specs.Frame.{create, delete, Fields, look, Operation, raise, read, setKey, unknown, write}
+use Rattle.rules.specs.Operations.{created, deleted, raised, startOf, tablesAfter, withVersion}
+use Rattle.rules.proofs.Placing.{clearOf, Placed}
+
+pub record SoundObject (q last : ℕ) (a : Object) : Type 0 where
+  pub number : 1 ≤ a .number
+  pub size : 1 ≤ a .size
+  pub inside : a .start + a .size ≤ q
+  pub version : a .version ≤ last
+
+pub object-is : (q last : ℕ) (a : Object) → soundObject q last a ≡ true → SoundObject q last a
+unfolding soundObject
+object-is q last a h = record {
+  number = leb-true 1 (a .number) (search (and-l, and-r));
+  size = leb-true 1 (a .size) (search (and-l, and-r));
+  inside = leb-true (a .start + a .size) q (search (and-l, and-r));
+  version = leb-true (a .version) last (search (and-l, and-r));
+}
+
+object-sound : (q last : ℕ) (a : Object) → SoundObject q last a → soundObject q last a ≡ true
+unfolding soundObject
+object-sound q last a s = search (both, le-leb)
+
+pub record SoundPartition (q : ℕ) (p : Partition Object) : Type 0 where
+  pub count : length (p .objects) ≤ 16
+  pub each : every (soundObject q (p .last)) (p .objects) ≡ true
+  pub pair : pairs apart (p .objects) ≡ true
+
+pub partition-is : (q : ℕ) (p : Partition Object) → soundPartition q p ≡ true → SoundPartition q p
+unfolding soundPartition
+partition-is q p h = record {
+  count = leb-true (length (p .objects)) 16 (search (and-l, and-r));
+  each = search (and-l, and-r);
+  pair = search (and-l, and-r);
+}
+
+partition-sound : (q : ℕ) (p : Partition Object) → SoundPartition q p → soundPartition q p ≡ true
+unfolding soundPartition
+partition-sound q p s = search (both, le-leb)
+
+pub unused-sound : (q F : ℕ) → soundPartition q (unused F) ≡ true
+unfolding every pairs
+unused-sound q F = partition-sound q (unused F) (record { count = omega arith; each = refl; pair = refl })
+
+-- a later last version
+later : (q v : ℕ) (l : List Object) → every (soundObject q v) l ≡ true → every (soundObject q (v + 1)) l ≡ true
+later q v l h = every-imp (soundObject q v) (soundObject q (v + 1)) (λ a k. one a (object-is q v a k)) l h
+  where
+    one : (a : Object) → SoundObject q v a → soundObject q (v + 1) a ≡ true
+    one a s = object-sound q (v + 1) a (record {
+      number = s .number;
+      size = s .size;
+      inside = s .inside;
+      version =
+          omega arith;
+    })
+
+raised-sound : (q n : ℕ) (p : Partition Object) → soundPartition q p ≡ true → soundPartition q (raised n p) ≡ true
+unfolding raised change
+raised-sound q n p h = partition-sound q (raised n p) (go (n is 0))
+  where
+    s : SoundPartition q p
+    s = partition-is q p h
+
+    v : ℕ
+    v = p .last + 1
+
+    f : Object → Object
+    f a = cond (a .number is n) (withVersion v a) a
+
+    new : (a : Object) (b : Bool) → SoundObject q (p .last) a → SoundObject q v (cond b (withVersion v a) a)
+    new a true o = record { number = o .number; size = o .size; inside = o .inside; version = omega arith }
+    new a false o = record { number = o .number; size = o .size; inside = o .inside; version = omega arith }
+
+    same : (a b : Object) (i j : Bool) → apart (cond i (withVersion v a) a) (cond j (withVersion v b) b) ≡ apart a b
+    same a b true true = refl
+    same a b true false = refl
+    same a b false true = refl
+    same a b false false = refl
+
+    go : (b : Bool) → SoundPartition q (changed (cond b v (p .version)) v
+        (cond b (p .objects) (map f (p .objects))) p)
+    go true = record { count = s .count; each = later q (p .last) (p .objects) (s .each); pair = s .pair }
+    go false = record {
+      count = rw length-map (s .count);
+      each = every-map (soundObject q v) f (p .objects)
+          (every-imp (soundObject q (p .last)) (λ (a : Object). soundObject q v (f a))
+          (λ a k. object-sound q v (f a) (new a (a .number is n) (object-is q (p .last) a k))) (p .objects)
+          (s .each));
+      pair = pairs-map apart f (λ a b. same a b (a .number is n) (b .number is n)) (p .objects) (s .pair);
+    }
+
+created-sound : (q number size start : ℕ) (p : Partition Object) → soundPartition q p ≡ true → 1 ≤ number → 1 ≤ size
+    → every (λ (a : Object). a .number isnt number) (p .objects) ≡ true → length (p .objects) < 16
+    → Placed q (p .objects) size start
+    → soundPartition q (created number size start p) ≡ true
+unfolding created
+created-sound q number size start p h hn hs free room pl = partition-sound q (created number size start p) (record {
+  count = rw length-append (omega arith);
+  each = every-append (soundObject q (p .last + 1)) (p .objects) (new ∷ []) (later q (p .last) (p .objects) (s .each))
+      (every-one (soundObject q (p .last + 1)) new
+      (object-sound q (p .last + 1) new (record {
+        number = hn;
+        size = hs;
+        inside = pl .inside;
+        version =
+            omega arith;
+      })));
+  pair = pairs-append-one apart (p .objects) new (s .pair)
+      (every-and (λ (a : Object). a .number isnt number) (clearOf start size) (p .objects) free (pl .clear));
+})
+  where
+    s : SoundPartition q p
+    s = partition-is q p h
+
+    new : Object
+    new = record { number = number; version = p .last + 1; size = size; start = start }
+
+deleted-sound : (q n : ℕ) (p : Partition Object) → soundPartition q p ≡ true → soundPartition q (deleted n p) ≡ true
+unfolding deleted
+deleted-sound q n p h = partition-sound q (deleted n p) (record {
+  count = omega (arith, length-keep other (p .objects), s .count);
+  each = every-keep (soundObject q (p .last)) other (p .objects) (s .each);
+  pair = pairs-keep apart other (p .objects) (s .pair);
+})
+  where
+    s : SoundPartition q p
+    s = partition-is q p h
+
+    other : Object → Bool
+    other a = a .number isnt n
+
+-- what a create that no row refuses has
+pub record CanCreate (q : ℕ) (t : Tables Object) (x : Fields) : Type 0 where
+  pub number : 1 ≤ x .req .A
+  pub size : 1 ≤ x .req .B
+  pub free : every (λ (a : Object). a .number isnt x .req .A) (partitionAt t (x .cred .partition) .objects) ≡ true
+  pub room : length (partitionAt t (x .cred .partition) .objects) < 16
+  pub place : Placed q (partitionAt t (x .cred .partition) .objects) (x .req .B) (startOf q t x)
+
+abbrev pub SoundTables : ℕ → Tables Object → Type 0
+SoundTables q t = every (soundPartition q) (t .partitions) ≡ true
+
+pub at-sound : (q : ℕ) (t : Tables Object) (p : ℕ) → SoundTables q t → soundPartition q (partitionAt t p) ≡ true
+at-sound q t p h = every-nth (soundPartition q) (t .partitions) p (unused 0) (unused-sound q 0) h
+
+pub tables-sound : (o : Operation) (q : ℕ) (x : Fields) (t : Tables Object) → SoundTables q t
+    → (o ≡ create → CanCreate q t x) → SoundTables q (tablesAfter o q x t)
+unfolding tablesAfter
+tables-sound unknown q x t h c = h
+tables-sound read q x t h c = h
+tables-sound write q x t h c = h
+tables-sound look q x t h c = h
+tables-sound raise q x t h c =
+    every-update (soundPartition q) (x .cred .partition) (raised (x .cred .object)) (t .partitions) (unused 0)
+    (raised-sound q (x .cred .object) (partitionAt t (x .cred .partition)) (at-sound q t (x .cred .partition) h)) h
+tables-sound create q x t h c =
+    every-update (soundPartition q) (x .cred .partition) (created (x .req .A) (x .req .B) (startOf q t x))
+    (t .partitions) (unused 0)
+    (created-sound q (x .req .A) (x .req .B) (startOf q t x) (partitionAt t (x .cred .partition))
+    (at-sound q t (x .cred .partition) h)
+    (c refl .number) (c refl .size) (c refl .free) (c refl .room) (c refl .place)) h
+tables-sound delete q x t h c =
+    every-update (soundPartition q) (x .cred .partition) (deleted (x .cred .object)) (t .partitions) (unused 0)
+    (deleted-sound q (x .cred .object) (partitionAt t (x .cred .partition)) (at-sound q t (x .cred .partition) h)) h
+tables-sound setKey q x t h c = h

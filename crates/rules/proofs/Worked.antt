@@ -1,0 +1,424 @@
+-- A worked list of calls, computed with HMAC left unopened: a fresh drive of 64 bytes, F = 1, and what the gate
+-- answers. It meets every
+-- row of the gate from 2 on but 21, and a grant of every operation; 21 needs another F, and row 1 another record or
+-- medium.
+use mathlib.Core.Path.{_∙_, _≡_, ap, refl, subst, sym}
+use mathlib.Core.Bool.{false, not}
+use mathlib.Core.Option.{Option·getD, some}
+use mathlib.Core.List.{[], _++_, _∷_, List, map}
+use Prim.Native.Nat.{_+_, ℕ}
+use native.Mathlib.Omega.{arith}
+use lib.Dec.{T}
+use lib.ListN.{drop, getD, replicate, set}
+use Rattle.lemmas.specs.Lists.{same}
+use Rattle.rules.specs.declared.Credential.{Credential}
+use Rattle.rules.specs.declared.Request.{Request}
+use Rattle.rules.specs.Demands.{State}
+use Rattle.digest.specs.Hmac.{hmac}
+use Rattle.rules.specs.Drive.{Drive, format, Key, Keys}
+use Rattle.rules.specs.Frame.{credentialMagic, requestBytes, requestMagic}
+use Rattle.rules.specs.Gate.{Call, gate, refused}
+use Rattle.rules.specs.Operations.{keyIn}
+use Rattle.rules.specs.Program.{broken, digits, prints, program}
+use Rattle.rules.proofs.Clear.{code}
+use Rattle.rules.proofs.Signed.{
+  AllKnown9,
+  altered,
+  answerWith,
+  callOf,
+  fail,
+  frame,
+  keys-with,
+  known-append,
+  known-times,
+  Known9,
+  leaves,
+  Move,
+  opened,
+  pass,
+  raw,
+  rightDigest,
+  run,
+  said,
+  said-with,
+  signed,
+  spread,
+  times,
+}
+
+-- ---- the frames
+-- slot, object, version, rights, least level, first and end; partition 0, expiry 9,000, holder 7
+by : ℕ → ℕ → ℕ → ℕ → ℕ → ℕ → ℕ → Credential
+by slot object version rights least first end = record {
+  magic = credentialMagic;
+  partition = 0;
+  slot = slot;
+  object = object;
+  version = version;
+  rights = rights;
+  least = least;
+  zero = 0;
+  first = first;
+  end = end;
+  expiry = 9000;
+  holder = 7;
+}
+
+-- operation, level, count, A, B and n; time 100
+ask : ℕ → ℕ → ℕ → ℕ → ℕ → ℕ → Request
+ask operation level count A B n =
+    record {
+      magic = requestMagic;
+      operation = operation;
+      level = level;
+      time = 100;
+      count = count;
+      A = A;
+      B = B;
+      n =
+          n;
+    }
+
+-- ---- the keys: the drive's partition key and working key 0 of partition 0, as operation 7 makes them
+masterKey : List ℕ
+masterKey = replicate 32 0
+
+driveKey : List ℕ
+driveKey = replicate 32 1
+
+seed : List ℕ
+seed = replicate 16 3
+
+setsKey : Request
+setsKey = ask 7 1 1 0 0 16
+
+partitionKey : List ℕ
+partitionKey = hmac driveKey (requestBytes setsKey ++ seed)
+
+workingKey : List ℕ
+workingKey = hmac partitionKey (requestBytes setsKey ++ seed)
+
+-- ---- the list
+begin : State
+begin =
+    let f = format (replicate 256 5) 1 masterKey driveKey in
+    record { drive = f .drive; medium = f .medium }
+
+-- a frame whose digest is never looked at, at a clock reading
+junk : ℕ → List ℕ → Move
+junk clock f = raw (record { frame = f; clock = clock; space = replicate 64 9 })
+
+-- a frame under working key 0, at clock 100 with 64 bytes for the reply
+put : Credential → Request → List ℕ → Move
+put c r payload = signed workingKey c r payload 100 64
+
+-- the partition key is set by the drive key, the working key by the partition key
+setPartition : Credential
+setPartition = by 3 0 0 64 1 0 0
+
+setWorking : Credential
+setWorking = by 2 0 0 64 1 0 0
+
+first : List Move
+first =
+    junk 0 []
+    ∷ junk 0 (replicate 96 0)
+    ∷ junk 100 (set (frame driveKey setPartition setsKey seed) 2 4)
+    ∷ junk 100 (frame driveKey setPartition setsKey seed ++ (0 ∷ []))
+    ∷ junk 100 (set (frame driveKey setPartition setsKey seed) 11 1)
+    ∷ junk 100 (frame driveKey (by 3 0 0 64 0 0 0) (ask 7 0 1 0 0 16) seed)
+    ∷ junk 100 (frame workingKey (by 0 0 1 16 0 0 0) (ask 5 0 2 5 10 0) [])
+    ∷ altered driveKey setPartition setsKey seed 100 64
+    ∷ signed driveKey setPartition setsKey seed 100 64
+    ∷ signed driveKey setPartition setsKey seed 100 64
+    ∷ signed partitionKey setWorking setsKey seed 100 64
+    ∷ put (by 0 0 1 16 0 0 0) (ask 5 0 2 5 10 0) []
+    ∷ put (by 0 0 1 16 0 0 0) (ask 5 0 3 5 1 0) []
+    ∷ put (by 0 0 1 16 0 0 0) (ask 5 0 3 6 55 0) []
+    ∷ put (by 0 5 2 2 0 0 10) (ask 2 0 4 3 4 4) (1 ∷ 2 ∷ 3 ∷ 4 ∷ [])
+    ∷ put (by 0 5 2 1 0 0 10) (ask 1 0 5 2 6 0) []
+    ∷ put (by 0 5 1 1 0 0 10) (ask 1 0 6 2 6 0) []
+    ∷ put (by 0 5 2 2 0 0 10) (ask 1 0 6 2 6 0) []
+    ∷ put (by 0 6 2 1 0 0 10) (ask 1 0 6 2 6 0) []
+    ∷ put (by 0 5 2 1 0 0 10) (ask 1 0 6 8 4 0) []
+    ∷ put (by 0 5 2 1 0 0 12) (ask 1 0 6 8 4 0) []
+    ∷ put (by 0 5 2 8 0 0 0) (ask 4 0 7 0 0 0) []
+    ∷ put (by 0 5 3 4 2 0 0) (ask 3 2 8 0 0 0) []
+    ∷ signed workingKey (by 0 5 3 1 0 0 10) (ask 1 0 9 2 6 0) [] 100 13
+    ∷ put (by 0 5 3 32 0 0 0) (ask 6 0 9 0 0 0) []
+    ∷ put (by 0 0 1 16 0 0 0) (ask 5 0 10 5 10 0) []
+    ∷ put (by 0 5 4 1 0 0 10) (ask 1 0 11 2 6 0) []
+    ∷ []
+
+-- the definitions above, and all that the gate computes with
+unfoldable firstFrames : ℕ
+unfolding opened by ask masterKey driveKey seed setsKey partitionKey workingKey begin junk put setPartition setWorking
+    first
+firstFrames = 0
+
+first-known : AllKnown9 begin first
+unfolding firstFrames
+first-known = (
+  tt,
+  (
+    tt,
+    (
+      tt,
+      (
+        tt,
+        (
+          tt,
+          (
+            tt,
+            (
+              tt,
+              (
+                fail driveKey setPartition setsKey seed,
+                (
+                  pass driveKey setPartition setsKey seed,
+                  (
+                    pass driveKey setPartition setsKey seed,
+                    (
+                      pass partitionKey setWorking setsKey seed,
+                      (
+                        pass workingKey (by 0 0 1 16 0 0 0) (ask 5 0 2 5 10 0) [],
+                        (
+                          pass workingKey (by 0 0 1 16 0 0 0) (ask 5 0 3 5 1 0) [],
+                          (
+                            pass workingKey (by 0 0 1 16 0 0 0) (ask 5 0 3 6 55 0) [],
+                            (
+                              pass workingKey (by 0 5 2 2 0 0 10) (ask 2 0 4 3 4 4) (1 ∷ 2 ∷ 3 ∷ 4 ∷ []),
+                              (
+                                pass workingKey (by 0 5 2 1 0 0 10) (ask 1 0 5 2 6 0) [],
+                                (
+                                  pass workingKey (by 0 5 1 1 0 0 10) (ask 1 0 6 2 6 0) [],
+                                  (
+                                    pass workingKey (by 0 5 2 2 0 0 10) (ask 1 0 6 2 6 0) [],
+                                    (
+                                      pass workingKey (by 0 6 2 1 0 0 10) (ask 1 0 6 2 6 0) [],
+                                      (
+                                        pass workingKey (by 0 5 2 1 0 0 10) (ask 1 0 6 8 4 0) [],
+                                        (
+                                          pass workingKey (by 0 5 2 1 0 0 12) (ask 1 0 6 8 4 0) [],
+                                          (
+                                            pass workingKey (by 0 5 2 8 0 0 0) (ask 4 0 7 0 0 0) [],
+                                            (
+                                              pass workingKey (by 0 5 3 4 2 0 0) (ask 3 2 8 0 0 0) [],
+                                              (
+                                                pass workingKey (by 0 5 3 1 0 0 10) (ask 1 0 9 2 6 0) [],
+                                                (
+                                                  pass workingKey (by 0 5 3 32 0 0 0) (ask 6 0 9 0 0 0) [],
+                                                  (
+                                                    pass workingKey (by 0 0 1 16 0 0 0) (ask 5 0 10 5 10 0) [],
+                                                    (
+                                                      pass workingKey (by 0 5 4 1 0 0 10) (ask 1 0 11 2 6 0) [],
+                                                      tt,
+                                                    ),
+                                                  ),
+                                                ),
+                                              ),
+                                            ),
+                                          ),
+                                        ),
+                                      ),
+                                    ),
+                                  ),
+                                ),
+                              ),
+                            ),
+                          ),
+                        ),
+                      ),
+                    ),
+                  ),
+                ),
+              ),
+            ),
+          ),
+        ),
+      ),
+    ),
+  ),
+)
+
+-- row, length and the reply of each
+worked : said begin (map callOf first)
+    ≡ ((2 ∷ 0 ∷ [])
+    ∷ (3 ∷ 0 ∷ [])
+    ∷ (4 ∷ 0 ∷ [])
+    ∷ (5 ∷ 0 ∷ [])
+    ∷ (6 ∷ 0 ∷ [])
+    ∷ (7 ∷ 0 ∷ [])
+    ∷ (8 ∷ 0 ∷ [])
+    ∷ (9 ∷ 0 ∷ [])
+    ∷ (0 ∷ 8 ∷ 0x4c ∷ 0x41 ∷ 7 ∷ 1 ∷ 0 ∷ 0 ∷ 0 ∷ 0 ∷ [])
+    ∷ (12 ∷ 0 ∷ [])
+    ∷ (0 ∷ 8 ∷ 0x4c ∷ 0x41 ∷ 7 ∷ 1 ∷ 0 ∷ 0 ∷ 0 ∷ 0 ∷ [])
+    ∷ (0 ∷ 12 ∷ 0x4c ∷ 0x41 ∷ 5 ∷ 0 ∷ 0 ∷ 0 ∷ 0 ∷ 4 ∷ 0 ∷ 0 ∷ 0 ∷ 2 ∷ [])
+    ∷ (18 ∷ 0 ∷ [])
+    ∷ (20 ∷ 0 ∷ [])
+    ∷ (0 ∷ 8 ∷ 0x4c ∷ 0x41 ∷ 2 ∷ 0 ∷ 0 ∷ 0 ∷ 0 ∷ 0 ∷ [])
+    ∷ (0 ∷ 14 ∷ 0x4c ∷ 0x41 ∷ 1 ∷ 0 ∷ 0 ∷ 0 ∷ 0 ∷ 6 ∷ 0 ∷ 1 ∷ 2 ∷ 3 ∷ 4 ∷ 0 ∷ [])
+    ∷ (15 ∷ 0 ∷ [])
+    ∷ (13 ∷ 0 ∷ [])
+    ∷ (14 ∷ 0 ∷ [])
+    ∷ (16 ∷ 0 ∷ [])
+    ∷ (17 ∷ 0 ∷ [])
+    ∷ (0 ∷ 12 ∷ 0x4c ∷ 0x41 ∷ 4 ∷ 0 ∷ 0 ∷ 0 ∷ 0 ∷ 4 ∷ 0 ∷ 0 ∷ 0 ∷ 3 ∷ [])
+    ∷ (0 ∷ 48 ∷ 0x4c ∷ 0x41 ∷ 3 ∷ 2 ∷ 0 ∷ 0 ∷ 0 ∷ 8 ∷ 0 ∷ 0 ∷ 0 ∷ 10 ∷ 0 ∷ 0 ∷ 0 ∷ 3 ∷ [])
+    ∷ (23 ∷ 0 ∷ [])
+    ∷ (0 ∷ 8 ∷ 0x4c ∷ 0x41 ∷ 6 ∷ 0 ∷ 0 ∷ 0 ∷ 0 ∷ 0 ∷ [])
+    ∷ (0 ∷ 12 ∷ 0x4c ∷ 0x41 ∷ 5 ∷ 0 ∷ 0 ∷ 0 ∷ 0 ∷ 4 ∷ 0 ∷ 0 ∷ 0 ∷ 4 ∷ [])
+    ∷ (0 ∷ 14 ∷ 0x4c ∷ 0x41 ∷ 1 ∷ 0 ∷ 0 ∷ 0 ∷ 0 ∷ 6 ∷ 0 ∷ 0 ∷ 0 ∷ 0 ∷ 0 ∷ 0 ∷ [])
+    ∷ [])
+unfolding firstFrames
+worked = said-with begin first first-known
+
+-- ---- a partition and a memory filled to the brim: 16 objects, then row 19; 64 entries, then row 22 while T + 5,000
+-- is at least the
+-- mark; room again once the mark has outlived them, and rows 11 and 10
+-- rights, operation, count, A and B, on object 0
+fill : ℕ → ℕ → ℕ → ℕ → ℕ → Move
+fill rights operation count A B = put (by 0 0 1 rights 0 0 0) (ask operation 0 count A B 0) []
+
+creates : ℕ → Move
+creates k = fill 16 5 (20 + k) (20 + k) 1
+
+looks : ℕ → Move
+looks k = fill 4 3 (100 + k) 0 0
+
+-- a look at time T and a clock reading
+looksAt : ℕ → Request
+looksAt T = record { magic = requestMagic; operation = 3; level = 0; time = T; count = 99; A = 0; B = 0; n = 0 }
+
+lookAt : ℕ → ℕ → Move
+lookAt T clock = signed workingKey (by 0 0 1 4 0 0 0) (looksAt T) [] clock 64
+
+crowded : List Move
+crowded = creates 70 ∷ []
+
+last : List Move
+last = lookAt 100 100 ∷ lookAt 100 5100 ∷ lookAt 5101 5101 ∷ lookAt 100 5101 ∷ lookAt 5101 9001 ∷ []
+
+filling : List Move
+filling = times 15 creates ++ (crowded ++ (times 40 looks ++ last))
+
+unfoldable allFrames : ℕ
+unfolding firstFrames filling crowded last creates looks lookAt looksAt fill
+allFrames = 0
+
+-- frames under the key that the drive holds, and that leave it there
+abbrev HasKey : State → Type 0
+HasKey s = keyIn (s .drive .tables .keys) 0 0 ≡ some workingKey
+
+fill-known : (rights operation count A B : ℕ) (s : State) → HasKey s → Known9 s (fill rights operation count A B)
+unfolding allFrames
+fill-known rights operation count A B s e =
+    subst (λ (key : Key). not (same (spread 32 (rightDigest workingKey c r []))
+    (rightDigest (Option·getD key []) c r [])) ≡ false) (sym e)
+    (pass workingKey c r [])
+  where
+    c : Credential
+    c = by 0 0 1 rights 0 0 0
+
+    r : Request
+    r = ask operation 0 count A B 0
+
+creates-keep : (k : ℕ) (s : State) → HasKey s → HasKey (leaves (answerWith s (creates k)))
+unfolding allFrames
+creates-keep k s e =
+    ap (λ (ks : Keys). keyIn ks 0 0) (keys-with false (s .drive) (s .medium) (callOf (creates k))
+    (λ h. let z : _≡_ {A = ℕ} 5 7 = ap code h in omega arith)) ∙ e
+
+looks-keep : (k : ℕ) (s : State) → HasKey s → HasKey (leaves (answerWith s (looks k)))
+unfolding allFrames
+looks-keep k s e =
+    ap (λ (ks : Keys). keyIn ks 0 0) (keys-with false (s .drive) (s .medium) (callOf (looks k))
+    (λ h. let z : _≡_ {A = ℕ} 3 7 = ap code h in omega arith)) ∙ e
+
+all-known : AllKnown9 begin (first ++ filling)
+unfolding allFrames
+all-known =
+    known-append begin first filling first-known
+    (known-append (run begin first) (times 15 creates) (crowded ++ (times 40 looks ++ last))
+    (known-times 15 creates HasKey (λ k s e. fill-known 16 5 (20 + k) (20 + k) 1 s e) creates-keep
+    (run begin first) refl)
+    (known-append (run (run begin first) (times 15 creates)) crowded (times 40 looks ++ last)
+    (pass workingKey (by 0 0 1 16 0 0 0) (ask 5 0 90 90 1 0) [], tt)
+    (known-append (run (run (run begin first) (times 15 creates)) crowded) (times 40 looks) last
+    (known-times 40 looks HasKey (λ k s e. fill-known 4 3 (100 + k) 0 0 s e) looks-keep
+    (run (run (run begin first) (times 15 creates)) crowded) refl) (
+      pass workingKey (by 0 0 1 4 0 0 0) (looksAt 100) [],
+      (
+        pass workingKey (by 0 0 1 4 0 0 0) (looksAt 100) [],
+        (
+          pass workingKey (by 0 0 1 4 0 0 0) (looksAt 5101) [],
+          (
+            pass workingKey (by 0 0 1 4 0 0 0) (looksAt 100) [],
+            (
+              pass workingKey (by 0 0 1 4 0 0 0) (looksAt 5101) [],
+              tt,
+            ),
+          ),
+        ),
+      ),
+    ))))
+
+filled : map (λ (l : List ℕ). getD l 0 0) (drop 27 (said begin (map callOf (first ++ filling))))
+    ≡ replicate 15 0 ++ (19 ∷ (replicate 40 0 ++ (22 ∷ 22 ∷ 0 ∷ 11 ∷ 10 ∷ [])))
+unfolding allFrames
+filled = ap (λ (a : List (List ℕ)). map (λ (l : List ℕ). getD l 0 0) (drop 27 a))
+    (said-with begin (first ++ filling) all-known)
+
+-- ---- row 21: the last version given is the largest, so create and raise are refused
+spent : State
+spent =
+    let f = format (replicate 64 5) 4_294_967_295 masterKey driveKey in
+    record { drive = f .drive; medium = f .medium }
+
+newest : List Move
+newest =
+    signed driveKey setPartition setsKey seed 100 64
+    ∷ signed partitionKey setWorking setsKey seed 100 64
+    ∷ put (by 0 0 4_294_967_295 16 0 0 0) (ask 5 0 2 5 1 0) []
+    ∷ put (by 0 0 4_294_967_295 8 0 0 0) (ask 4 0 2 0 0 0) []
+    ∷ []
+
+no-version : map (λ (l : List ℕ). getD l 0 0) (said spent (map callOf newest)) ≡ 0 ∷ 0 ∷ 21 ∷ 21 ∷ []
+unfolding spent newest firstFrames
+no-version =
+    ap (λ (a : List (List ℕ)). map (λ (l : List ℕ). getD l 0 0) a)
+    (said-with spent newest (
+      pass driveKey setPartition setsKey seed,
+      (
+        pass partitionKey setWorking setsKey seed,
+        (
+          pass workingKey (by 0 0 4_294_967_295 16 0 0 0) (ask 5 0 2 5 1 0) [],
+          (pass workingKey (by 0 0 4_294_967_295 8 0 0 0) (ask 4 0 2 0 0 0) [], tt),
+        ),
+      ),
+    ))
+
+-- ---- row 1: a medium that is too short, and a record that is not sound; the drive comes back unchanged, its mark
+-- too
+empty : ℕ → Call
+empty clock = record { frame = []; clock = clock; space = [] }
+
+too-short : gate (begin .drive) (replicate 255 0) (empty 7) ≡ refused 1 (begin .drive) (replicate 255 0) []
+unfolding empty firstFrames
+too-short = refl
+
+-- M over 16,777,216
+large : Drive
+large = record { size = 16_777_217; tables = begin .drive .tables; memories = begin .drive .memories }
+
+unsound : gate large (replicate 256 0) (empty 7) ≡ refused 1 large (replicate 256 0) []
+unfolding large empty firstFrames
+unsound = refl
+
+-- ---- the document's example of the program: an empty frame and then 96 zero bytes, clocks 0, print 1 2 0, 2 3 0,
+-- end 2
+example : program (0x4c ∷ 0x49 ∷ (replicate 12 0 ++ (0x4c ∷ 0x49 ∷ (replicate 11 0 ++ (96 ∷ replicate 96 0)))))
+    ≡ 49 ∷ 32 ∷ 50 ∷ 32 ∷ 48 ∷ 10 ∷ 50 ∷ 32 ∷ 51 ∷ 32 ∷ 48 ∷ 10 ∷ 101 ∷ 110 ∷ 100 ∷ 32 ∷ 50 ∷ 10 ∷ []
+unfolding program prints broken digits opened
+example = refl

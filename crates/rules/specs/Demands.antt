@@ -1,0 +1,207 @@
+-- The customer's demands 1 and 3, as statements about the gate of Gate.antt and the ledger of Ledger.antt.
+-- Proved in proofs/: `exact`, `demand1`, `demand3`. d: a drive. m: a medium. c: a call. s: drive and medium. l: a
+-- ledger.
+use mathlib.Core.Path.{_≡_}
+use mathlib.Core.Logic.{_↔_, _⊎_}
+use mathlib.Core.Bool.{true}
+use mathlib.Core.Option.{Option·getD, Option·map}
+use mathlib.Core.List.{[], _++_, _∷_, List, List·Memᴰ}
+use Prim.Native.Nat.{_*_, _+_, _<_, _≤_, ℕ}
+use lib.ListN.{getD, take, length}
+use Rattle.lemmas.specs.Lists.{find, keep, part}
+use Rattle.lemmas.specs.Rows.{clear, firstRow}
+use Rattle.rules.specs.declared.Entry.{Entry}
+use Rattle.rules.specs.declared.Object.{Object}
+use Rattle.rules.specs.Client.{build, Built, check, frameOf}
+use Rattle.digest.specs.Hmac.{hmac}
+use Rattle.rules.specs.Drive.{Drive, format, lives, partitionAt, quarter, refresh, sound}
+use Rattle.rules.specs.Frame.{
+  covered,
+  credentialAt,
+  Fields,
+  Operation,
+  operationOf,
+  read,
+  requestAt,
+  memory,
+  fields,
+  entry,
+}
+use Rattle.rules.specs.Gate.{Answer, Call, gate, granted}
+use Rattle.rules.specs.Ledger.{clocked, Fed, Held, Ledger, ledger, numberOf, tablesOf, start}
+use Rattle.rules.specs.Operations.{headSize, resultLength, result}
+use Rattle.rules.specs.Rows.{bounds, frameRows, rows}
+
+-- ---- the gate grants exactly when no row applies, and a grant is the one that the rules give
+pub record Exact (d : Drive) (m : List ℕ) (c : Call) : Type 0 where
+  pub grants : (gate d m c .row ≡ 0) ↔ (clear (rows d m (c .frame) (c .clock) (c .space)) ≡ true)
+  pub grant : gate d m c .row ≡ 0 → gate d m c ≡ granted (refresh (c .clock) d) m (fields (c .frame)) (c .space)
+  -- and the row returned is the first that applies
+  pub row : gate d m c .row ≡ firstRow (rows d m (c .frame) (c .clock) (c .space))
+
+-- ---- demand 1
+-- "in the drive it moves only the time mark and drops entries that the mark has outlived": e is d but for these
+pub record MarkAndOutlived (d e : Drive) : Type 0 where
+  pub size : e .size ≡ d .size
+  pub keys : e .tables .keys ≡ d .tables .keys
+  pub partitions : e .tables .partitions ≡ d .tables .partitions
+  pub mark : d .tables .highWater ≤ e .tables .highWater
+  -- each memory is as it was, or as it was without the entries that the new mark has outlived
+  pub memories : (k : ℕ)
+      → (getD (e .memories) k [] ≡ getD (d .memories) k [])
+      ⊎ (getD (e .memories) k [] ≡ keep (lives (e .tables .highWater)) (getD (d .memories) k []))
+
+pub record Demand1 (d : Drive) (m : List ℕ) (c : Call) : Type 0 where
+  -- "gets a grant or one row number from document 01"
+  pub row : gate d m c .row ≤ 23
+  -- "A refusal writes no byte of the reply space or the medium"
+  pub length : (gate d m c .row ≡ 0 → ⊥) → gate d m c .length ≡ 0
+  pub space : (gate d m c .row ≡ 0 → ⊥) → gate d m c .space ≡ c .space
+  pub medium : (gate d m c .row ≡ 0 → ⊥) → gate d m c .medium ≡ m
+  pub drive : (gate d m c .row ≡ 0 → ⊥) → MarkAndOutlived d (gate d m c .drive)
+  -- row 1: "it comes back unchanged, mark included"
+  pub unchanged : gate d m c .row ≡ 1 → gate d m c .drive ≡ d
+
+-- ---- demand 2: "What the builder writes, the gate reads as the same fields."
+-- the frame that a builder wrote: the first bytes of its space, as many as it says
+abbrev pub builtFrame : Built → List ℕ
+builtFrame b = take (b .length) (b .space)
+
+pub record ReadsBack (credential request payload key space : List ℕ) : Type 0 where
+  -- it is the document's frame
+  pub frame : builtFrame (build credential request payload key space) ≡ frameOf credential request payload key
+  -- none of rows 2 to 7 refuses it
+  pub accepted : firstRow (frameRows (frameOf credential request payload key)
+      (fields (frameOf credential request payload key))) ≡ 0
+  -- and its fields are the records', its parts theirs and the data
+  pub fields : fields (frameOf credential request payload key) ≡ record {
+    cred = credentialAt credential 0;
+    req = requestAt request 0;
+    credential = credential;
+    request = request;
+    payload = payload;
+    digest = hmac key (covered (requestAt request 0 .level) credential request payload);
+  }
+
+-- a grant's reply to a built frame is one that the reply check accepts, with the result of the operation
+pub record RepliesBack (d : Drive) (m : List ℕ) (c : Call) (credential request key : List ℕ) : Type 0 where
+  pub accepted : check credential request key (take (gate d m c .length) (gate d m c .space)) ≡ record {
+    row = 0;
+    start = headSize;
+    length = resultLength (requestAt request 0);
+    result = result (operationOf (fields (c .frame))) (quarter (d .size)) (refresh (c .clock) d .tables)
+        (fields (c .frame)) m;
+  }
+
+-- ---- a list of calls: "Each call gets the drive that the last one returned and the medium as it left it"
+pub record State : Type 0 where
+  pub drive : Drive
+  pub medium : List ℕ
+
+unfoldable pub answer : State → Call → Answer
+answer s c = gate (s .drive) (s .medium) c
+
+unfoldable pub step : State → Call → State
+step s c = record { drive = answer s c .drive; medium = answer s c .medium }
+
+unfoldable pub after : State → List Call → State
+after s [] = s
+after s (c ∷ cs) = after (step s c) cs
+
+-- what those calls feed the ledger
+unfoldable pub fed : State → List Call → List Fed
+fed s [] = []
+fed s (c ∷ cs) = record { frame = c .frame; clock = c .clock; row = answer s c .row } ∷ fed (step s c) cs
+
+-- ---- demand 3
+-- "nonce memory, key slot, holder, time and count"
+pub record Nonce : Type 0 where
+  pub memory : ℕ
+  pub entry : Entry
+
+unfoldable pub nonce : Call → Nonce
+nonce c = record { memory = memory (fields (c .frame)); entry = entry (fields (c .frame)) }
+
+-- the bytes of the ledger's object that a frame names
+unfoldable pub bytesOf : Ledger → Fields → List ℕ
+bytesOf l x = Option·getD (Option·map Held.bytes
+    (find numberOf (x .cred .object) (partitionAt l (x .cred .partition) .objects))) []
+
+-- where an object of partition p lies on a medium of M bytes
+abbrev pub from : ℕ → ℕ → Object → ℕ
+from M p a = p * quarter M + a .start
+
+abbrev pub to : ℕ → ℕ → Object → ℕ
+to M p a = p * quarter M + a .start + a .size
+
+-- a is an object of the drive's partition p
+abbrev pub Has : State → ℕ → Object → Type 0
+Has s p a = List·Memᴰ a (partitionAt (s .drive .tables) p .objects)
+
+-- drive and medium agree with the ledger
+pub record Agrees (M : ℕ) (s : State) (l : Ledger) : Type 0 where
+  -- mark, keys, versions, last versions given, objects in the ledger's order
+  pub tables : s .drive .tables ≡ tablesOf l
+  -- "each object's area of the medium holds its bytes in the ledger"
+  pub bytes : (p : ℕ) (h : Held) → List·Memᴰ h (partitionAt l p .objects)
+      → part (s .medium) (from M p (h .object)) (h .object .size) ≡ h .bytes
+  -- "each inside its own partition"
+  pub inside : (p : ℕ) (a : Object) → Has s p a → (p < 4)
+      × ((p * quarter M ≤ from M p a) × (to M p a ≤ (p + 1) * quarter M))
+  -- "their areas disjoint": two objects, of two partitions or with two numbers
+  pub disjoint : (p r : ℕ) (a b : Object) → Has s p a → Has s r b → (p ≡ r → a .number ≡ b .number → ⊥)
+      → (to M p a ≤ from M r b) ⊎ (to M r b ≤ from M p a)
+  -- and the record is sound, so that a partition's numbers are all different
+  pub sound : sound (s .drive) ≡ true
+
+-- a call's fields and operation; that it is granted after the calls before; and the ledger then
+abbrev pub asks : Call → Fields
+asks c = fields (c .frame)
+
+abbrev pub does : Call → Operation
+does c = operationOf (asks c)
+
+abbrev pub Granted : State → List Call → Call → Type 0
+Granted s before c = answer (after s before) c .row ≡ 0
+
+abbrev pub book : ℕ → State → Ledger → List Call → Ledger
+book M s l before = ledger M l (fed s before)
+
+-- all of demand 3, of the list `calls` put to the state s, whose medium has M bytes and whose ledger starts as l
+pub record Demand3 (M : ℕ) (s : State) (l : Ledger) (calls : List Call) : Type 0 where
+  -- "No two grants in the whole list share nonce memory, key slot, holder, time and count."
+  pub noRepeat : (before between later : List Call) (c d : Call)
+      → calls ≡ before ++ (c ∷ (between ++ (d ∷ later)))
+      → Granted s before c
+      → Granted s (before ++ (c ∷ between)) d
+      → nonce c ≡ nonce d → ⊥
+  -- "Each grant is within its credential's rights, expiry and .. range. It is under the key and .. the version that
+  -- the format or
+  -- earlier grants put there": rows 8–10 and 13–17, by the ledger before the call with the mark that this call sets
+  pub kept : (before later : List Call) (c : Call)
+      → calls ≡ before ++ (c ∷ later)
+      → Granted s before c
+      → firstRow (bounds (tablesOf (clocked (c .clock) (book M s l before))) (asks c)) ≡ 0
+  -- "Each granted read shows, for every byte, exactly the last granted write to it since that object's creation, or
+  -- zero":
+  -- after the reply's head, the bytes from A up to A + B of the ledger's object
+  pub shown : (before later : List Call) (c : Call)
+      → calls ≡ before ++ (c ∷ later)
+      → Granted s before c
+      → does c ≡ read
+      → part (answer (after s before) c .space) headSize (asks c .req .B)
+      ≡ part (bytesOf (book M s l before) (asks c)) (asks c .req .A) (asks c .req .B)
+  -- "After every call the drive holds exactly the objects that the grants so far left, their areas disjoint and each
+  -- inside its
+  -- own partition."
+  pub agrees : (before later : List Call) → calls ≡ before ++ later → Agrees M (after s before) (book M s l before)
+
+-- for every format that returned row 0 and every list of calls
+abbrev pub AllOfDemand3 : Type 0
+AllOfDemand3 =
+    (medium : List ℕ) (F : ℕ) (master drive : List ℕ) (calls : List Call)
+    → format medium F master drive .row ≡ 0
+    → Demand3 (length medium)
+    (record { drive = format medium F master drive .drive; medium = format medium F master drive .medium })
+    (start F master drive)
+    calls

@@ -1,0 +1,230 @@
+-- Document 01, "Why the drive says no", rows 1 to 23: each row's test under the document's words, then all as one
+-- table.
+-- f: the frame. c, r: the numbers of its credential and request. x: its fields. t: the tables, with the new mark.
+use mathlib.Core.Bool.{Bool, not, _&&_, _||_, cond}
+use mathlib.Core.List.{List, [], _∷_, _++_}
+use Prim.Native.Nat.{ℕ, _+_, _-_, _/_, _%_, _^_}
+use lib.ListN.{length, getD}
+use lib.Dec.{leb}
+use Rattle.lemmas.specs.Tests.{_over_, _under_, _is_, _isnt_, any}
+use Rattle.lemmas.specs.Lists.{same, some?, find, missing}
+use Rattle.lemmas.specs.Rows.{Row, line}
+use Rattle.rules.specs.declared.Credential.{Credential}
+use Rattle.rules.specs.declared.Request.{Request}
+use Rattle.rules.specs.declared.Object.{Object}
+use Rattle.rules.specs.declared.Entry.{Entry}
+use Rattle.rules.specs.Frame.{credentialMagic, requestMagic, Fields, fields, entry, memory}
+use Rattle.rules.specs.Drive.{Tables, Drive, quarter, mostObjects, mostEntries, sound, sameEntry, refresh}
+use Rattle.rules.specs.Operations.{keyIn, digestOf, home, named, objectOf, present, placeOf, replyLength}
+
+-- 1. "The drive record is not sound .., or the medium lent is not M bytes long."
+unfoldable pub row1 : Drive → List ℕ → Bool
+row1 d m = not (sound d) || length m isnt d .size
+
+-- 2. "The frame is under 96 bytes."
+abbrev pub leastFrame : ℕ
+leastFrame = 96
+
+abbrev pub row2 : List ℕ → Bool
+row2 f = length f under leastFrame
+
+-- 3. "Bytes 0–1 or 36–37 are not the marks."
+abbrev pub row3 : Credential → Request → Bool
+row3 c r = c .magic isnt credentialMagic || r .magic isnt requestMagic
+
+-- 4. "A field is outside the values above, including rights bits 7–15 set and slot 3 or 4 with partition not 0."
+abbrev pub credentialFaults : Credential → List Bool
+credentialFaults c =
+    (c .partition over 3)
+    ∷ (c .slot over 4)
+    ∷ (c .slot over 2 && c .partition isnt 0)
+    ∷ (c .rights over 127)
+    ∷ (c .least over 2)
+    ∷ (c .zero isnt 0)
+    ∷ []
+
+abbrev pub outsideCredential : Credential → Bool
+outsideCredential c = any (credentialFaults c)
+
+abbrev pub mostData : ℕ
+mostData = 1_048_576
+
+abbrev pub requestFaults : Request → List Bool
+requestFaults r = (r .operation under 1) ∷ (r .operation over 7) ∷ (r .level over 2) ∷ (r .n over mostData) ∷ []
+
+abbrev pub outsideRequest : Request → Bool
+outsideRequest r = any (requestFaults r)
+
+abbrev pub row4 : Credential → Request → Bool
+row4 c r = outsideCredential c || outsideRequest r
+
+-- 5. "n is not 0 for operations 1 and 3–6, B for 2, 16 for 7, or the frame is not as long as its parts together, 96
+-- + n bytes."
+abbrev pub dataLength : Request → ℕ
+dataLength r = cond (r .operation is 2) (r .B) (cond (r .operation is 7) 16 0)
+
+abbrev pub wrongData : Request → Bool
+wrongData r = r .n isnt dataLength r
+
+abbrev pub row5 : Request → List ℕ → Bool
+row5 r f = wrongData r || length f isnt leastFrame + r .n
+
+-- 6. "Operation misfits: 1–6 with slot over 1; 7 with slot under 2 or version not 0; 1, 2, 6 on object 0; 5, 7
+-- elsewhere;
+-- 3, 4, 6 with A or B not 0; 5 with A or B 0; 7 with B not 0, or A over 1, 3, 0 for slots 2, 3, 4."
+abbrev pub misfits : Credential → Request → List Bool
+misfits c r =
+    (r .operation under 7 && c .slot over 1)
+    ∷ (r .operation is 7 && (c .slot under 2 || c .version isnt 0))
+    ∷ ((r .operation is 1 || r .operation is 2 || r .operation is 6) && c .object is 0)
+    ∷ ((r .operation is 5 || r .operation is 7) && c .object isnt 0)
+    ∷ ((r .operation is 3 || r .operation is 4 || r .operation is 6) && (r .A isnt 0 || r .B isnt 0))
+    ∷ (r .operation is 5 && (r .A is 0 || r .B is 0))
+    ∷ (r .operation is 7 && r .B isnt 0)
+    ∷ (r .operation is 7 && c .slot is 2 && r .A over 1)
+    ∷ (r .operation is 7 && c .slot is 3 && r .A over 3)
+    ∷ (r .operation is 7 && c .slot is 4 && r .A over 0)
+    ∷ []
+
+abbrev pub row6 : Credential → Request → Bool
+row6 c r = any (misfits c r)
+
+-- 7. "The level is under the credential's least, or is 0 with operation 7."
+abbrev pub row7 : Credential → Request → Bool
+row7 c r = r .level under c .least || (r .level is 0 && r .operation is 7)
+
+-- 8. "The named key was never set."
+unfoldable pub row8 : Tables Object → Fields → Bool
+row8 t x = missing (keyIn (t .keys) (x .cred .partition) (x .cred .slot))
+
+-- 9. "The digest differs."
+unfoldable pub row9 : Tables Object → Fields → Bool
+row9 t x = not (same (x .digest) (digestOf (t .keys) x))
+
+-- 10. "The mark is over the expiry."
+abbrev pub expired : ℕ → ℕ → Bool
+expired mark expiry = mark over expiry
+
+unfoldable pub row10 : Tables Object → Fields → Bool
+row10 t x = expired (t .highWater) (x .cred .expiry)
+
+-- 11. "T + 5,000 is under the mark, or T is over the mark + 5,000."
+abbrev pub untimely : ℕ → ℕ → Bool
+untimely mark T = T + 5000 under mark || T over mark + 5000
+
+unfoldable pub row11 : Tables Object → Fields → Bool
+row11 t x = untimely (t .highWater) (x .req .time)
+
+-- 12. "Its memory holds the nonce."
+unfoldable pub remembered : Drive → Fields → List Entry
+remembered d x = getD (d .memories) (memory x) []
+
+unfoldable pub row12 : Drive → Fields → Bool
+row12 d x = some? (sameEntry (entry x)) (remembered d x)
+
+-- 13. "The right is missing." "Operation k needs rights bit k − 1"; bits count from the lowest
+abbrev pub bit : ℕ → ℕ → Bool
+bit k n = n / 2 ^ k % 2 is 1
+
+unfoldable pub row13 : Fields → Bool
+row13 x = not (bit (x .req .operation - 1) (x .cred .rights))
+
+-- 14. "The object, not 0, does not exist in the partition."
+unfoldable pub row14 : Tables Object → Fields → Bool
+row14 t x = x .cred .object isnt 0 && missing (named t x)
+
+-- 15. "Operations 1–6: the version is not the present one."
+unfoldable pub row15 : Tables Object → Fields → Bool
+row15 t x = x .req .operation under 7 && x .cred .version isnt present t x
+
+-- operations 1 and 2; 4 and 5
+abbrev pub moves : Request → Bool
+moves r = r .operation is 1 || r .operation is 2
+
+abbrev pub gives : Request → Bool
+gives r = r .operation is 4 || r .operation is 5
+
+-- 16. "Operations 1, 2: not (first ≤ A and A + B ≤ end)."
+abbrev pub outOfRange : ℕ → ℕ → ℕ → ℕ → Bool
+outOfRange first end A B = not (leb first A && leb (A + B) end)
+
+unfoldable pub row16 : Fields → Bool
+row16 x = moves (x .req) && outOfRange (x .cred .first) (x .cred .end) (x .req .A) (x .req .B)
+
+-- 17. "Operations 1, 2: A + B is over the size."
+unfoldable pub row17 : Tables Object → Fields → Bool
+row17 t x = moves (x .req) && x .req .A + x .req .B over objectOf t x .size
+
+-- 18. "Create: the number is taken."
+unfoldable pub row18 : Tables Object → Fields → Bool
+row18 t x = x .req .operation is 5 && not (missing (find Object.number (x .req .A) (home t x .objects)))
+
+-- 19. "Create: 16 objects exist."
+unfoldable pub row19 : Tables Object → Fields → Bool
+row19 t x = x .req .operation is 5 && length (home t x .objects) is mostObjects
+
+-- 20. "Create: no gap has B bytes."
+unfoldable pub row20 : ℕ → Tables Object → Fields → Bool
+row20 q t x = x .req .operation is 5 && missing (placeOf q t x)
+
+-- 21. "Operations 4, 5: the partition has given version 4,294,967,295."
+unfoldable pub row21 : Tables Object → Fields → Bool
+row21 t x = gives (x .req) && home t x .last is 4_294_967_295
+
+-- 22. "The memory holds 64 entries; here and in row 12 outlived entries have gone first."
+unfoldable pub row22 : Drive → Fields → Bool
+row22 d x = length (remembered d x) is mostEntries
+
+-- 23. "The reply space is too short."
+abbrev pub row23 : Fields → List ℕ → Bool
+row23 x space = length space under replyLength (x .req)
+
+-- ---- the table
+-- rows 2 to 7: the frame's own bytes
+unfoldable pub frameRows : List ℕ → Fields → List Row
+frameRows f x =
+    line 2 (row2 f)
+    ∷ line 3 (row3 (x .cred) (x .req))
+    ∷ line 4 (row4 (x .cred) (x .req))
+    ∷ line 5 (row5 (x .req) f)
+    ∷ line 6 (row6 (x .cred) (x .req))
+    ∷ line 7 (row7 (x .cred) (x .req))
+    ∷ []
+
+-- rows 8 to 23: the frame and the drive, which has its new mark and no outlived entry
+unfoldable pub driveRows : Drive → Fields → List ℕ → List Row
+driveRows d x space =
+    line 8 (row8 (d .tables) x)
+    ∷ line 9 (row9 (d .tables) x)
+    ∷ line 10 (row10 (d .tables) x)
+    ∷ line 11 (row11 (d .tables) x)
+    ∷ line 12 (row12 d x)
+    ∷ line 13 (row13 x)
+    ∷ line 14 (row14 (d .tables) x)
+    ∷ line 15 (row15 (d .tables) x)
+    ∷ line 16 (row16 x)
+    ∷ line 17 (row17 (d .tables) x)
+    ∷ line 18 (row18 (d .tables) x)
+    ∷ line 19 (row19 (d .tables) x)
+    ∷ line 20 (row20 (quarter (d .size)) (d .tables) x)
+    ∷ line 21 (row21 (d .tables) x)
+    ∷ line 22 (row22 d x)
+    ∷ line 23 (row23 x space)
+    ∷ []
+
+-- all, of a frame put to the drive d at a clock reading
+unfoldable pub rows : Drive → List ℕ → List ℕ → ℕ → List ℕ → List Row
+rows d m f clock space = line 1 (row1 d m) ∷ (frameRows f (fields f) ++ driveRows (refresh clock d) (fields f) space)
+
+-- the rows that the ledger judges: rights, expiry, range, key and version (8 to 10 and 13 to 17)
+unfoldable pub bounds : Tables Object → Fields → List Row
+bounds t x =
+    line 8 (row8 t x)
+    ∷ line 9 (row9 t x)
+    ∷ line 10 (row10 t x)
+    ∷ line 13 (row13 x)
+    ∷ line 14 (row14 t x)
+    ∷ line 15 (row15 t x)
+    ∷ line 16 (row16 x)
+    ∷ line 17 (row17 t x)
+    ∷ []

@@ -1,0 +1,45 @@
+// Document 01's records, shared by the definitions in specs/ and by the code above. This crate has no other code.
+
+// Credential, 36 bytes: one number for each field, in its order.
+pub struct Credential {
+    pub magic: u16,
+    pub partition: u8,
+    pub slot: u8,
+    pub object: u32,
+    pub version: u32,
+    pub rights: u16,
+    pub least: u8,
+    pub zero: u8,
+    pub first: u32,
+    pub end: u32,
+    pub expiry: u64,
+    pub holder: u32,
+}
+
+// Request, 28 bytes: one number for each field, in its order.
+pub struct Request {
+    pub magic: u16,
+    pub operation: u8,
+    pub level: u8,
+    pub time: u64,
+    pub count: u32,
+    pub A: u32,
+    pub B: u32,
+    pub n: u32,
+}
+
+// An object of a partition. Its extent ("area" in document 01) starts `start` bytes after its quarter's start.
+pub struct Object {
+    pub number: u32,
+    pub version: u32,
+    pub size: u32,
+    pub start: u32,
+}
+
+// An entry of a replay memory ("nonce memory" in document 01).
+pub struct Entry {
+    pub slot: u8,
+    pub holder: u32,
+    pub time: u64,
+    pub count: u32,
+}
