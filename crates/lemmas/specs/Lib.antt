@@ -7,3 +7,6 @@ pub mod Rows
 pub mod BigEndian
 pub mod Fill
 pub mod Bits
+pub mod Layout
+pub mod Same
+pub mod Loops

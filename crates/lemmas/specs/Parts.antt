@@ -7,7 +7,7 @@ use native.Mathlib.Nat.{add-assoc}
 use native.Mathlib.Decide.{decLt}
 use native.Mathlib.Omega.{arith}
 use lib.ListN.{length, getD, take, drop, length-append, length-drop, List·getD-append}
-use lib.Seq.{getD-take, getD-drop, getD-append-add, length-take-le, ext-getD}
+use lib.Seq.{take-at, getD-take, getD-drop, getD-append-add, length-take-le, ext-getD}
 use Rattle.lemmas.specs.Lists.{part, splice}
 
 seam : (p q : List ℕ) (n j : ℕ) → length p ≡ n → getD (p ++ q) (n + j) 0 ≡ getD q j 0
@@ -135,3 +135,8 @@ part-part s k n a b h l =
   where
     len : length (part (part s k n) a b) ≡ b
     len = length-part (part s k n) a b (rw (length-part s k n l) h)
+
+-- what was spliced in at the start, taken back
+pub splice-front : (s new : List ℕ) (n : ℕ) → length new ≡ n → take n (splice s 0 new) ≡ new
+unfolding splice
+splice-front s new n e = take-at new (drop (0 + length new) s) n e

@@ -1,0 +1,46 @@
+-- A refusal by `build-refused`; a grant joins the records, the data and their digest: `build-granted`.
+use mathlib.Core.Path.{_≡_, refl, sym, ap, _∙_}
+use mathlib.Core.List.{List}
+use Prim.Native.Nat.{ℕ}
+use lib.ListN.{length}
+use borrow.Author.Needs.{needs}
+use Rattle.digest.specs.Hmac.{hmac}
+use Rattle.rules.specs.declared.Request.{Request}
+use Rattle.rules.specs.Frame.{covered}
+use Rattle.client.specs.Rows.{buildRow}
+use Rattle.client.specs.Laws.{build-refused, build-credential, build-request, build-room, build-granted}
+use Rattle.client.proofs.build.Statement.{statement}
+use Rattle.client.proofs.build.Tie as tie
+
+returns : tie.Need-returns
+returns c =
+    let a = c .before .before .before .before .before .before .before .args in
+    let i = c .before .build-row in
+    build-refused (a .credential .now) (a .request .now) (a .bytes .now) (a .key .now) (a .space .now) (i .result) _ (i .ensures) (c .if1 .taken) refl
+
+-- no row applies
+zero : (t : tie.Else1)
+    → let a = t .before .before .before .before .before .before .before .args in
+    buildRow (a .credential .now) (a .request .now) (length (a .bytes .now)) (length (a .key .now)) (length (a .space .now)) ≡ 0
+zero t = sym (t .before .build-row .ensures) ∙ t .if1 .left
+
+join-requires : tie.Need-join-requires
+join-requires c κs =
+    let t = c .before .before .before .before in
+    let a = t .before .before .before .before .before .before .before .args in
+    (build-credential (a .credential .now) (a .request .now) (a .bytes .now) (a .key .now) (a .space .now) (zero t), build-request (a .credential .now) (a .request .now) (a .bytes .now) (a .key .now) (a .space .now) (zero t), build-room (a .credential .now) (a .request .now) (a .bytes .now) (a .key .now) (a .space .now) (zero t))
+
+returns-2 : tie.Need-returns-2
+returns-2 c =
+    let t = c .before .before .before .before .before .before .before in
+    let a = t .before .before .before .before .before .before .before .args in
+    build-granted (a .credential .now) (a .request .now) (a .bytes .now) (a .key .now) (a .space .now) (zero t) _ (c .before .before .before .before .before .frame-digest .result) _ refl refl
+    (c .before .before .before .before .before .frame-digest .ensures
+    ∙ ap (λ (q : Request). hmac (a .key .now) (covered (q .level) (a .credential .now) (a .request .now) (a .bytes .now))) (c .before .before .before .before .before .before .request-of .ensures))
+    (c .before .before .join .ensures)
+
+pub build-spec : {M : Type 1} → statement M
+build-spec =
+    tie.close
+    (tie.spec
+    (λ c κs. search needs) returns (λ c κs. search needs) (λ c κs. search needs) join-requires (λ c. search needs) (λ c. search needs) returns-2)

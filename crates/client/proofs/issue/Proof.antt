@@ -1,0 +1,43 @@
+-- A refusal by `issue-refused`; a grant writes the credential and keys its 36 bytes: `issue-granted`.
+use mathlib.Core.Path.{_≡_, refl, sym, ap, _∙_}
+use mathlib.Core.List.{List}
+use Prim.Native.Nat.{ℕ}
+use lib.ListN.{length, take}
+use lib.Seq.{length-take-le}
+use Rattle.digest.specs.Hmac.{hmac}
+use Rattle.client.specs.Rows.{issueRow}
+use borrow.Author.Needs.{needs}
+use Rattle.client.specs.Laws.{issue-refused, issue-granted, issue-room}
+use Rattle.client.proofs.issue.Statement.{statement}
+use Rattle.client.proofs.issue.Tie as tie
+
+returns : tie.Need-returns
+returns c =
+    let a = c .before .before .before .before .args in
+    let i = c .before .issue-row in
+    issue-refused (a .fields) (a .key .now) (a .space .now) (i .result) _ (i .ensures) (c .if1 .taken) refl
+
+-- no row applies, and the space has the credential's bytes
+zero : (t : tie.After-put-credential) → issueRow (t .before .before .before .before .before .before .args .fields) (length (t .before .before .before .before .before .before .args .key .now)) (length (t .before .before .before .before .before .before .args .space .now)) ≡ 0
+zero t = sym (t .before .before .before .issue-row .ensures) ∙ t .before .before .if1 .left
+
+slice-reshare-prefix-of : tie.Need-slice-reshare-prefix-of
+slice-reshare-prefix-of c =
+    let a = c .before .before .before .before .before .before .before .before .args in
+    rw (c .before .before .put-credential .ensures) (issue-room (a .fields) (a .key .now) (a .space .now) (zero (c .before .before)))
+
+slice-aggregate-of : tie.Need-slice-aggregate-of
+slice-aggregate-of c = sym (length-take-le 36 (c .before .before .before .put-credential .last .1 .0) (slice-reshare-prefix-of (c .before)))
+
+returns-2 : tie.Need-returns-2
+returns-2 c =
+    let a = c .before .before .before .before .before .before .before .before .before .before .args in
+    rw (c .before .before .before .before .put-credential .ensures)
+    (issue-granted (a .fields) (a .key .now) (a .space .now) (record { row = 0; key = c .of .result }) (zero (c .before .before .before .before)) refl
+    (c .of .ensures ∙ ap (λ (l : List ℕ). hmac (a .key .now) (take 36 l)) (c .before .before .before .before .put-credential .ensures)))
+
+pub issue-spec : {M : Type 1} → statement M
+issue-spec =
+    tie.close
+    (tie.spec
+    (λ c κs. search needs) returns (λ c κs. search needs) slice-reshare-prefix-of slice-aggregate-of (λ c κs. search needs) (λ c. search needs) returns-2)

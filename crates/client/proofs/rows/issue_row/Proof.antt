@@ -1,0 +1,15 @@
+-- Three rows, the last first.
+use borrow.Author.Needs.{needs}
+use Rattle.lemmas.specs.Rows.{firstRow}
+use Rattle.client.specs.Rows.{issueRow}
+use Rattle.client.proofs.rows.issue_row.Statement.{statement}
+use Rattle.client.proofs.rows.issue_row.Tie as tie
+
+returns : tie.Need-returns
+unfolding issueRow firstRow
+returns c = cc
+
+pub issue-row-spec : {M : Type 1} → statement M
+issue-row-spec =
+    tie.close
+    (tie.spec (λ c κs. search needs) (λ c κs. search needs) (λ c κs. search needs) (λ c κs. search needs) returns)

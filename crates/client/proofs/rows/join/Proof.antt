@@ -1,0 +1,26 @@
+-- Four copies, one behind the other, are one splice: `four-parts`.
+use mathlib.Core.Path.{_≡_}
+use lib.ListN.{length}
+use borrow.Author.Needs.{needs}
+use Rattle.client.specs.Laws.{four-parts}
+use Rattle.client.proofs.rows.join.Statement.{statement}
+use Rattle.client.proofs.rows.join.Tie as tie
+
+returns : tie.Need-returns
+returns c =
+    let s = c .before .before .before .before .before .before .before .before .before .before .before .before .before .before .before .before .before .before .before .before .before in
+    let a = s .args in
+    let long : length (a .digest .now) ≡ 32 = search needs in
+    rw (
+      c .before .before .copy-to4 .ensures,
+      c .before .before .before .before .before .before .before .copy-to3 .ensures,
+      c .before .before .before .before .before .before .before .before .before .before .before .copy-to2 .ensures,
+      c .before .before .before .before .before .before .before .before .before .before .before .before .before .before .before .copy-to .ensures,
+    )
+    (four-parts (a .space .now) (a .credential .now) (a .request .now) (a .bytes .now) (a .digest .now) (s .pre .0) (s .pre .1) long (s .pre .2))
+
+pub join-spec : {M : Type 1} → statement M
+join-spec =
+    tie.close
+    (tie.spec
+    (λ c κs. search needs) (λ c κs. search needs) (λ c κs. search needs) (λ c. search needs) (λ c κs. search needs) (λ c. search needs) returns)

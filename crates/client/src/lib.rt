@@ -1,0 +1,73 @@
+// The client end of document 01: issuer, frame builder and reply check.
+ghost use mathlib.Core.Path.{_≡_};
+ghost use Rattle.client.specs.Met.{IssueMet, BuildMet, CheckMet};
+use digest::mac;
+
+mod rows;
+
+// Row 0 and the credential key; or the row and 32 zero bytes.
+pub struct Issued {
+    pub row: u32,
+    pub key: [u8; 32],
+}
+
+// Row 0 and the frame's length; or the row and length 0.
+pub struct Built {
+    pub row: u32,
+    pub length: usize,
+}
+
+// Writes the 36 bytes of a credential at the start of `space` and returns its key, made from the key in its slot.
+pub fn issue(fields: rules::Credential, key: &[u8], space: &mut [u8]) -> Issued
+    ensures { λ r. ⌜ IssueMet fields (now (key .entry)) (now (space .entry)) r (now (space .exit)) ⌝ }
+{
+    let row = rows::issue_row(fields, key.len(), space.len());
+    if row != 0 {
+        let zeros = [0u8; 32];
+        return Issued { row, key: zeros };
+    }
+    wire::put_credential(fields, space);
+    let secret = mac::of(key, &space[..36]);
+    Issued {
+        row: 0,
+        key: secret,
+    }
+}
+
+// Writes a frame at the start of `space`: both records, the data and the digest under the credential key.
+pub fn build(credential: &[u8], request: &[u8], bytes: &[u8], key: &[u8], space: &mut [u8]) -> Built
+    ensures { λ r. ⌜ BuildMet (now (credential .entry)) (now (request .entry)) (now (bytes .entry)) (now (key .entry)) (now (space .entry)) r (now (space .exit)) ⌝ }
+{
+    let row = rows::build_row(credential, request, bytes.len(), key.len(), space.len());
+    if row != 0 {
+        return Built { row, length: 0 };
+    }
+    let r = wire::request_of(request);
+    let digest = rows::frame_digest(credential, request, bytes, key, r.level);
+    rows::join(credential, request, bytes, &digest, space);
+    Built {
+        row: 0,
+        length: 96 + bytes.len(),
+    }
+}
+
+// The result, as the part of `reply` after its eight-byte head, and row 0; or an empty part and the row.
+pub fn check<'a>(
+    credential: &[u8],
+    request: &[u8],
+    key: &[u8],
+    reply: &'a [u8],
+    row: &mut u32,
+) -> &'a [u8]
+    ensures { λ r. ⌜ CheckMet (now (credential .entry)) (now (request .entry)) (now (key .entry)) (now (reply .entry)) (now (row .exit)) (now r) ⌝ }
+{
+    let found = rows::check_row(credential, request, key, reply);
+    *row = found;
+    if found == 0 {
+        let n = reply::result_length(wire::request_of(request)) as usize;
+        let end = 8 + n;
+        &reply[8..end]
+    } else {
+        &reply[..0]
+    }
+}

@@ -1,0 +1,124 @@
+// The rows of the client end, 26 and 28 to 30, and the parts of a frame put together.
+ghost use mathlib.Core.Path.{_≡_};
+ghost use mathlib.Core.Bool.{_||_, not};
+ghost use mathlib.Core.List.{_++_};
+ghost use Prim.Native.Nat.{_+_, _≤_};
+ghost use lib.ListN.{length, take};
+ghost use Rattle.lemmas.specs.Lists.{part, splice, same};
+ghost use Rattle.lemmas.specs.Rows.{firstRow};
+ghost use Rattle.digest.specs.Hmac.{hmac};
+ghost use Rattle.rules.specs.Frame.{covered};
+ghost use Rattle.rules.specs.Operations.{replyCovered};
+ghost use Rattle.rules.specs.Client.{checkRows};
+ghost use Rattle.client.specs.Rows.{issueRow, lacksRoom, buildRow, wrongShape};
+use digest::mac;
+use lemmas::pick;
+
+// The issuer's row.
+pub fn issue_row(c: rules::Credential, key: usize, space: usize) -> u32
+    ensures { λ r. ⌜ r ≡ issueRow c key space ⌝ }
+{
+    let r = pick(space < 36, 29, 0);
+    let r = pick(wire::bad_credential(c), 28, r);
+    pick(key != 32, 26, r)
+}
+
+// Whether the space is too short for a frame of n data bytes. No sum, so none that wraps.
+fn lacks_room(space: usize, n: usize) -> bool
+    ensures { λ r. ⌜ r ≡ lacksRoom space n ⌝ }
+{
+    if space < 96 {
+        return true;
+    }
+    space - 96 < n
+}
+
+// The builder's row.
+pub fn build_row(credential: &[u8], request: &[u8], n: usize, key: usize, space: usize) -> u32
+    ensures { λ r. ⌜ r ≡ buildRow (now (credential .entry)) (now (request .entry)) n key space ⌝ }
+{
+    let q = wire::request_of(request);
+    let r = pick(lacks_room(space, n), 29, 0);
+    let r = pick(
+        wire::bad_records(credential, request) | (q.n as usize != n),
+        28,
+        r,
+    );
+    pick(key != 32, 26, r)
+}
+
+// The digest of a frame: over credential and request, and the data too from level 1.
+pub fn frame_digest(
+    credential: &[u8],
+    request: &[u8],
+    bytes: &[u8],
+    key: &[u8],
+    level: u8,
+) -> [u8; 32]
+    ensures { λ r. ⌜ r ≡ hmac (now (key .entry)) (covered level (now (credential .entry)) (now (request .entry)) (now (bytes .entry))) ⌝ }
+{
+    if level == 0 {
+        return mac::of3(key, credential, request, &bytes[..0]);
+    }
+    mac::of3(key, credential, request, bytes)
+}
+
+// The four parts of a frame, one after the other, at the start of the space.
+pub fn join(credential: &[u8], request: &[u8], bytes: &[u8], digest: &[u8; 32], space: &mut [u8])
+    requires { ⌜ (length (now credential) ≡ 36) × (length (now request) ≡ 28) × (96 + length (now bytes) ≤ length (now space)) ⌝ }
+    ensures { λ _. ⌜ now (space .exit) ≡ splice (now (space .entry)) 0 (now (credential .entry) ++ (now (request .entry) ++ (now (bytes .entry) ++ now (digest .entry)))) ⌝ }
+{
+    wire::copy_to(space, 0, credential);
+    wire::copy_to(space, 36, request);
+    wire::copy_to(space, 64, bytes);
+    wire::copy_to(space, 64 + bytes.len(), digest);
+}
+
+// Whether a reply has not the head and the length that the request calls for.
+fn wrong_shape(reply: &[u8], q: rules::Request) -> bool
+    ensures { λ r. ⌜ r ≡ wrongShape (now (reply .entry)) q ⌝ }
+{
+    if reply.len() as u64 != reply::reply_length(q) {
+        return true;
+    }
+    let n = reply::result_length(q);
+    let head = reply::reply_head(q, n);
+    !wire::same(&reply[..8], &head)
+}
+
+// Whether a reply's digest, after n bytes of head and result, is another than the one under the credential key.
+fn wrong_digest(credential: &[u8], request: &[u8], key: &[u8], reply: &[u8], n: usize) -> bool
+    requires { ⌜ length (now reply) ≡ n + 32 ⌝ }
+    ensures { λ r. ⌜ r ≡ not (same (part (now (reply .entry)) n 32) (hmac (now (key .entry)) (replyCovered (now (credential .entry)) (now (request .entry)) (take n (now (reply .entry)))))) ⌝ }
+{
+    let right = mac::of3(key, credential, request, &reply[..n]);
+    !wire::same(&reply[n..], &right)
+}
+
+// The reply check's row.
+pub fn check_row(credential: &[u8], request: &[u8], key: &[u8], reply: &[u8]) -> u32
+    ensures { λ r. ⌜ r ≡ firstRow (checkRows (now (credential .entry)) (now (request .entry)) (now (key .entry)) (now (reply .entry))) ⌝ }
+{
+    let q = wire::request_of(request);
+    let n = reply::result_length(q);
+    let r = pick(
+        wire::bad_records(credential, request) | (n > 4194304),
+        28,
+        0,
+    );
+    let r = pick(key.len() != 32, 26, r);
+    if r != 0 {
+        return r;
+    }
+    if wrong_shape(reply, q) {
+        return 30;
+    }
+    if q.level != 2 {
+        return 0;
+    }
+    pick(
+        wrong_digest(credential, request, key, reply, 8 + n as usize),
+        30,
+        0,
+    )
+}

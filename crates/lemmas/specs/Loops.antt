@@ -1,0 +1,202 @@
+-- Laws for loops: what one element more at the end of `take i l`, which a turn adds, does to tests, choices and maps.
+use mathlib.Core.Path.{_≡_, refl, sym, ap, _∙_}
+use mathlib.Core.Bool.{Bool, true, false, not, _&&_, _||_, cond, true≢false}
+use mathlib.Core.Option.{none, some}
+use mathlib.Core.List.{List, [], _∷_, _++_, map, append-nil}
+use Prim.Native.Nat.{ℕ, zero, suc, _+_, _≤_, _<_, min}
+use native.Mathlib.Nat.{not-suc-le-zero, le-of-suc-le-suc}
+use native.Mathlib.Numerals.{add-one}
+use native.Mathlib.Decide.{decLt}
+use native.Mathlib.Omega.{arith}
+use lib.ListN.{length, getD, take, set, length-map, length-take}
+use lib.Seq.{take-suc, take-suc-set, take-all}
+use borrow.Author.Tests.{lt-ltb, le-ltb}
+use Rattle.lemmas.specs.Tests.{_is_, _under_}
+use Rattle.lemmas.specs.Lists.{every, some?, pairs, keep, find, change}
+use Rattle.lemmas.specs.ListLaws.{map-append}
+
+or-false : (b : Bool) → (b || false) ≡ b
+or-false true = refl
+or-false false = refl
+
+and-true : (b : Bool) → (b && true) ≡ b
+and-true true = refl
+and-true false = refl
+
+or-assoc : (a b c : Bool) → (a || b || c) ≡ (a || (b || c))
+or-assoc true b c = refl
+or-assoc false b c = refl
+
+and-assoc : (a b c : Bool) → (a && b && c) ≡ (a && (b && c))
+and-assoc true b c = refl
+and-assoc false b c = refl
+
+and-swap : (a b c d : Bool) → (a && b && (c && d)) ≡ (a && c && (b && d))
+and-swap true true c d = refl
+and-swap true false true d = refl
+and-swap true false false d = refl
+and-swap false b c d = refl
+
+-- an array of structs in a struct: what owning it tells is a length of the mapped list
+pub unmapped : {A B : Type 0} (f : A → B) (l : List A) (n : ℕ) → length (map f l) ≡ n → length l ≡ n
+unmapped f l n e = sym (length-map l f) ∙ e
+
+module _ {A B : Type 0} where
+  -- f over the elements, from the first on
+  abbrev pub fold : (B → A → B) → B → List A → B
+  fold f b [] = b
+  fold f b (x ∷ xs) = fold f (f b x) xs
+
+  fold-more : (f : B → A → B) (b : B) (xs : List A) (x : A) → fold f b (xs ++ (x ∷ [])) ≡ f (fold f b xs) x
+  fold-more f b [] x = refl
+  fold-more f b (y ∷ xs) x = fold-more f (f b y) xs x
+
+  pub fold-take : (f : B → A → B) (b : B) (l : List A) (i : ℕ) (d : A) → i < length l
+      → fold f b (take (i + 1) l) ≡ f (fold f b (take i l)) (getD l i d)
+  fold-take f b l i d h = rw (add-one, take-suc l i d h, fold-more)
+
+module _ {A : Type 0} where
+  -- ---- an array l of k places with a count n: a count over the length is the length
+  module _ (n k : ℕ) (l : List A) (e : length l ≡ k) where
+    pub take-within : (i : ℕ) → i ≡ min n k → take i l ≡ take n l
+    take-within i q = go (decLt n k)
+      where
+        go : Dec (n < k) → take i l ≡ take n l
+        go (yes h) = let p : i ≡ n = omega arith in ap (λ (i : ℕ). take i l) p
+        go (no h) = take-all i l (omega arith) ∙ sym (take-all n l (omega arith))
+
+    pub length-within : length (take n l) ≡ min n k
+    length-within = length-take n l ∙ ap (λ (j : ℕ). min n j) e
+
+    -- one more at the end where there is room, and none where there is not
+    pub append-room : (a : A) → n < k
+        → take (n + 1) (set l n a) ≡ cond (length (take n l) under k) (take n l ++ (a ∷ [])) (take n l)
+    append-room a h =
+        let p : min n k ≡ n = omega arith in
+        rw (length-within, p, lt-ltb n k h, add-one) (take-suc-set l n a (omega arith))
+
+    pub append-full : (a : A) → k ≤ n
+        → take k l ≡ cond (length (take n l) under k) (take n l ++ (a ∷ [])) (take n l)
+    append-full a h =
+        let p : min n k ≡ k = omega arith in
+        rw (length-within, p, le-ltb k k (omega arith)) (take-within k (sym p))
+
+  -- ---- one element more at the end of a list
+  some-more : (t : A → Bool) (xs : List A) (x : A) → some? t (xs ++ (x ∷ [])) ≡ some? t xs || t x
+  unfolding some?
+  some-more t [] x = or-false (t x)
+  some-more t (y ∷ xs) x = ap (λ b. t y || b) (some-more t xs x) ∙ sym (or-assoc (t y) (some? t xs) (t x))
+
+  every-more : (t : A → Bool) (xs : List A) (x : A) → every t (xs ++ (x ∷ [])) ≡ every t xs && t x
+  unfolding every
+  every-more t [] x = and-true (t x)
+  every-more t (y ∷ xs) x = ap (λ b. t y && b) (every-more t xs x) ∙ sym (and-assoc (t y) (every t xs) (t x))
+
+  pairs-more : (t : A → A → Bool) (xs : List A) (x : A)
+      → pairs t (xs ++ (x ∷ [])) ≡ pairs t xs && every (λ (y : A). t y x) xs
+  unfolding pairs every
+  pairs-more t [] x = refl
+  pairs-more t (y ∷ xs) x =
+      rw (every-more (t y) xs x, pairs-more t xs x)
+      (and-swap (every (t y) xs) (t y x) (pairs t xs) (every (λ (z : A). t z x) xs))
+
+  keep-more : (t : A → Bool) (xs : List A) (x : A) → keep t (xs ++ (x ∷ [])) ≡ keep t xs ++ cond (t x) (x ∷ []) []
+  unfolding keep
+  keep-more t [] x = refl
+  keep-more t (y ∷ xs) x = go (t y) (keep-more t xs x)
+    where
+      go : (b : Bool) → keep t (xs ++ (x ∷ [])) ≡ keep t xs ++ cond (t x) (x ∷ []) []
+          → cond b (y ∷ keep t (xs ++ (x ∷ []))) (keep t (xs ++ (x ∷ [])))
+          ≡ cond b (y ∷ keep t xs) (keep t xs) ++ cond (t x) (x ∷ []) []
+      go true e = ap (λ l. y ∷ l) e
+      go false e = e
+
+  -- ---- a loop that stands at place i of l
+  pub take-more : (l : List A) (i : ℕ) (d : A) → i < length l → take (i + 1) l ≡ take i l ++ (getD l i d ∷ [])
+  take-more l i d h = rw add-one (take-suc l i d h)
+
+  pub take-more-set : (l : List A) (i : ℕ) (a : A) → i < length l → take (i + 1) (set l i a) ≡ take i l ++ (a ∷ [])
+  take-more-set l i a h = rw add-one (take-suc-set l i a h)
+
+  module _ (t : A → Bool) (l : List A) (i : ℕ) (d : A) (h : i < length l) where
+    pub some-take : some? t (take (i + 1) l) ≡ some? t (take i l) || t (getD l i d)
+    some-take = rw (take-more l i d h) (some-more t (take i l) (getD l i d))
+
+    pub every-take : every t (take (i + 1) l) ≡ every t (take i l) && t (getD l i d)
+    every-take = rw (take-more l i d h) (every-more t (take i l) (getD l i d))
+
+  pub pairs-take : (t : A → A → Bool) (l : List A) (i : ℕ) (d : A) → i < length l
+      → pairs t (take (i + 1) l) ≡ pairs t (take i l) && every (λ (y : A). t y (getD l i d)) (take i l)
+  pairs-take t l i d h = rw (take-more l i d h) (pairs-more t (take i l) (getD l i d))
+
+  -- a loop that keeps, in rs, what passes of es: one turn, by the test
+  module _ (t : A → Bool) (es rs : List A) (i k : ℕ) (d : A) (h : i < length es)
+      (e : take k rs ≡ keep t (take i es)) where
+    pub keep-took : k < length rs → t (getD es i d) ≡ true
+        → take (k + 1) (set rs k (getD es i d)) ≡ keep t (take (i + 1) es)
+    keep-took m p =
+        rw (take-more es i d h, keep-more t (take i es) (getD es i d), p, take-more-set rs k (getD es i d) m, e)
+
+    pub keep-passed : t (getD es i d) ≡ false → take k rs ≡ keep t (take (i + 1) es)
+    keep-passed p = rw (take-more es i d h, keep-more t (take i es) (getD es i d), p, e, append-nil)
+
+  -- a search through the first n of l that stands at i
+  some-none : (x : A) → some x ≡ none → ⊥
+  some-none x e = let z : _≡_ {A = ℕ} 0 1 = cc in absurd (omega arith)
+
+  pub find-hit : (number : A → ℕ) (m : ℕ) (l : List A) (i : ℕ) (d : A) (n : ℕ) → i < length l → i < n
+      → find number m (take i l) ≡ none → (number (getD l i d) is m) ≡ true
+      → find number m (take n l) ≡ some (getD l i d)
+  unfolding find
+  find-hit number m [] i d n h k e p = absurd (not-suc-le-zero h)
+  find-hit number m (x ∷ l) i d zero h k e p = absurd (not-suc-le-zero k)
+  find-hit number m (x ∷ l) zero d (suc n) h k e p = rw p
+  find-hit number m (x ∷ l) (suc i) d (suc n) h k e p =
+      go (number x is m) (λ g. find-hit number m l i d n (le-of-suc-le-suc h) (le-of-suc-le-suc k) g p) e
+    where
+      go : (b : Bool) → (find number m (take i l) ≡ none → find number m (take n l) ≡ some (getD l i d))
+          → cond b (some x) (find number m (take i l)) ≡ none
+          → cond b (some x) (find number m (take n l)) ≡ some (getD l i d)
+      go true ih g = absurd (some-none x g)
+      go false ih g = ih g
+
+  find-more : (number : A → ℕ) (m : ℕ) (xs : List A) (x : A) → find number m xs ≡ none → (number x is m) ≡ false
+      → find number m (xs ++ (x ∷ [])) ≡ none
+  unfolding find
+  find-more number m [] x e p = rw p
+  find-more number m (y ∷ xs) x e p = go (number y is m) (λ g. find-more number m xs x g p) e
+    where
+      go : (b : Bool) → (find number m xs ≡ none → find number m (xs ++ (x ∷ [])) ≡ none)
+          → cond b (some y) (find number m xs) ≡ none → cond b (some y) (find number m (xs ++ (x ∷ []))) ≡ none
+      go true ih g = absurd (some-none y g)
+      go false ih g = ih g
+
+  pub find-pass : (number : A → ℕ) (m : ℕ) (l : List A) (i : ℕ) (d : A) → i < length l
+      → find number m (take i l) ≡ none → (number (getD l i d) is m) ≡ false → find number m (take (i + 1) l) ≡ none
+  find-pass number m l i d h e p = rw (take-more l i d h) (find-more number m (take i l) (getD l i d) e p)
+
+  -- a test that fails at no element keeps them all
+  pub keep-all : (t : A → Bool) (l : List A) → some? (λ (a : A). not (t a)) l ≡ false → keep t l ≡ l
+  unfolding some? keep
+  keep-all t [] h = refl
+  keep-all t (x ∷ xs) h = go (t x) h (λ k. keep-all t xs k)
+    where
+      go : (b : Bool) → (not b || some? (λ (a : A). not (t a)) xs) ≡ false
+          → (some? (λ (a : A). not (t a)) xs ≡ false → keep t xs ≡ xs)
+          → cond b (x ∷ keep t xs) (keep t xs) ≡ x ∷ xs
+      go true k ih = ap (λ ys. x ∷ ys) (ih k)
+      go false k ih = absurd (true≢false k)
+
+-- ---- a loop that maps, in rs, the elements of l: one turn
+pub map-took : {A B : Type 0} (f : A → B) (l : List A) (rs : List B) (i : ℕ) (d : A) (x : B)
+    → i < length l → i < length rs
+    → take i rs ≡ map f (take i l) → x ≡ f (getD l i d) → take (i + 1) (set rs i x) ≡ map f (take (i + 1) l)
+map-took f l rs i d x h k e p =
+    rw (take-more-set rs i x k, take-more l i d h, map-append f (take i l) (getD l i d ∷ []), e, p)
+
+pub change-took : {A : Type 0} (number : A → ℕ) (n : ℕ) (g : A → A) (l rs : List A) (i : ℕ) (d x : A)
+    → i < length l → i < length rs
+    → take i rs ≡ change number n g (take i l) → x ≡ cond (number (getD l i d) is n) (g (getD l i d)) (getD l i d)
+    → take (i + 1) (set rs i x) ≡ change number n g (take (i + 1) l)
+unfolding change
+change-took number n g l rs i d x h k e p = map-took (λ a. cond (number a is n) (g a) a) l rs i d x h k e p

@@ -1,0 +1,2 @@
+-- Document 01, "Nonce memories": a replay memory as the rules see it.
+pub mod Memory

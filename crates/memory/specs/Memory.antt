@@ -1,0 +1,40 @@
+-- Document 01, "Drive state", nonce memories: a memory of the record as the rules see it. mark: the drive's time.
+use mathlib.Core.Path.{_≡_}
+use mathlib.Core.Bool.{true, false, not}
+use mathlib.Core.List.{List}
+use Prim.Native.Nat.{ℕ, _+_, _-_, _<_, _≤_}
+use native.Mathlib.Omega.{arith}
+use native.Mathlib.Decide.{decLt}
+use lib.ListN.{take}
+use lib.Dec.{ltb}
+use borrow.Author.Tests.{le-leb, lt-leb, lt-ltb, le-ltb}
+use Rattle.lemmas.specs.Lists.{some?, keep}
+use Rattle.lemmas.specs.Loops.{keep-all}
+use Rattle.rules.specs.declared.Entry.{Entry}
+use Rattle.rules.specs.Drive.{lives}
+use Rattle.memory.specs.declared.Memory.{Memory}
+
+-- "a memory holds, in order of grant, exactly its entries"
+abbrev pub entriesOf : Memory → List Entry
+entriesOf m = take (m .count) (m .entries)
+
+-- what stands past the end of a list of entries
+abbrev pub noEntry : Entry
+noEntry = record { slot = 0; holder = 0; time = 0; count = 0 }
+
+-- ---- laws: the test as the code makes it, and a memory with no outlived entry
+pub lives-yes : (mark : ℕ) (e : Entry) → mark - 5000 ≤ e .time → lives mark e ≡ true
+lives-yes mark e h = le-leb mark (e .time + 5000) (omega arith)
+
+pub lives-no : (mark : ℕ) (e : Entry) → e .time < mark - 5000 → lives mark e ≡ false
+lives-no mark e h = lt-leb mark (e .time + 5000) (omega arith)
+
+pub outlived : (mark : ℕ) (e : Entry) → not (lives mark e) ≡ ltb (e .time) (mark - 5000)
+outlived mark e = go (decLt (e .time) (mark - 5000))
+  where
+    go : Dec (e .time < mark - 5000) → not (lives mark e) ≡ ltb (e .time) (mark - 5000)
+    go (yes h) = rw (lives-no mark e h, lt-ltb (e .time) (mark - 5000) h)
+    go (no h) = rw (lives-yes mark e (omega arith), le-ltb (e .time) (mark - 5000) (omega arith))
+
+pub fresh : (mark : ℕ) (l : List Entry) → some? (λ (e : Entry). not (lives mark e)) l ≡ false → keep (lives mark) l ≡ l
+fresh mark l h = keep-all (lives mark) l h

@@ -1,0 +1,64 @@
+-- best is the pass over the first i objects (fold-take).
+use mathlib.Core.Path.{_≡_, refl}
+use Prim.Native.Nat.{_-_, _^_, _≤_, _<_}
+use native.Mathlib.Omega.{arith}
+use lib.ListN.{length, take}
+use borrow.Author.Needs.{needs}
+use Rattle.lemmas.specs.Loops.{unmapped, take-within, length-within, fold, fold-take}
+use Rattle.rules.specs.declared.Object.{Object}
+use Rattle.rules.specs.Operations.{noObject}
+use Rattle.rules.specs.BestFit.{spot}
+use Rattle.state.specs.Objects.{listed}
+use Rattle.placing.specs.Placing.{gapOf, held, tried, endOf, chosen, spot-nothing}
+use Rattle.placing.proofs.best_gap.Statement.{statement}
+use Rattle.placing.proofs.best_gap.Tie as tie
+
+abbrev Inv-loop : tie.InvT-loop
+Inv-loop step quarter size os n best₀ i₀ best i =
+    (i ≤ n)
+    × (best .from ≤ 2 ^ 33)
+    × (spot step (gapOf best) ≤ quarter)
+    × (held best ≡ fold (λ b (x : Object). tried step quarter (listed os) size b (endOf x)) (held best₀) (take i (os .items)))
+
+abbrev μ-loop : tie.MeasureT-loop
+μ-loop step quarter size os n best₀ i₀ best i = n - i
+
+better-of-requires : tie.Need-better-of-requires Inv-loop μ-loop
+better-of-requires c κs =
+    let a = c .before .args in
+    (search needs, search needs, rw (spot-nothing (a .step) 0) (omega arith))
+
+loop-holds : tie.Need-loop-holds Inv-loop μ-loop
+loop-holds c = (search needs, c .better-of .ensures .1, c .better-of .ensures .2, refl)
+
+better-of-requires-2 : tie.Need-better-of-requires-2 Inv-loop μ-loop
+better-of-requires-2 c κs =
+    let l = c .before .before .before .before .loop in
+    (search needs, l .inv .1, l .inv .2)
+
+loop-again : tie.Need-loop-again Inv-loop μ-loop
+loop-again c =
+    let l = c .before .before .before .before .before .loop in
+    let a = c .before .before .before .before .before .before .before .before .args in
+    let long : length (a .t4 .items) ≡ 16 = search (needs, unmapped) in
+    let h : l .i < length (a .t4 .items) = omega arith in
+    let b = c .before .before .before .before .before .before .better-of .result in
+    let turn = fold-take (λ b (x : Object). tried (a .step) (a .quarter) (listed (a .t4)) (a .size) b (endOf x)) (held b) (a .t4 .items) (l .i) noObject h in
+    (search needs, c .better-of2 .ensures .1, c .better-of2 .ensures .2, rw (turn, ← l .inv .3) (c .better-of2 .ensures .0))
+
+returns : tie.Need-returns Inv-loop μ-loop
+unfolding chosen
+returns c =
+    let l = c .before .loop in
+    let a = c .before .before .before .before .args in
+    let long : length (a .t4 .items) ≡ 16 = search (needs, unmapped) in
+    let n = length-within (a .t4 .count) 16 (a .t4 .items) long in
+    let all = take-within (a .t4 .count) 16 (a .t4 .items) long (l .i) (omega (arith, n, c .before .before .before .object-count .ensures .0)) in
+    (rw (l .inv .3, all, c .before .before .better-of .ensures .0), l .inv .1, l .inv .2)
+
+pub best-gap-spec : {M : Type 1} → statement M
+best-gap-spec =
+    tie.close
+    (tie.spec
+    Inv-loop μ-loop (λ c κs. search needs) better-of-requires loop-holds (λ c. search needs) (λ c. search needs) (λ c. search needs) (λ c. search needs)
+    (λ c. search needs) better-of-requires-2 (λ c. search needs) (λ c. search needs) loop-again returns)

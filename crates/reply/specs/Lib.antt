@@ -1,0 +1,1 @@
+-- The contracts cite document 01's own definitions: nothing to add.

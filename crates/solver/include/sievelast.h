@@ -1,0 +1,52 @@
+/* Sievelast's client end for C: build a frame, check a reply. Link libsolver.a (`rt staticlib solver`); nothing else is needed.
+ *
+ * Every argument is a pointer and a length in bytes. What is const is only read. Nothing is kept after a call returns, nothing
+ * is allocated, and no call fails in any other way than by its row. A length of 0 allows any pointer, NULL too. `space` must not
+ * overlap any other argument; the const arguments may overlap each other.
+ *
+ * Rows (why a call said no); 0 means granted:
+ *   26  the key is not 32 bytes
+ *   28  a record is not 36 or 28 bytes long, or its fields are none that a drive would take; for the builder also: the request's
+ *       data length is not data_len; for the check also: the request calls for a result of over 4,194,304 bytes
+ *   29  the space is too short for the frame (96 bytes and the data)
+ *   30  the reply is not the one that the request calls for: its mark, operation, level, a length, or its level 2 digest
+ */
+#ifndef SIEVELAST_H
+#define SIEVELAST_H
+
+#include <stddef.h>
+#include <stdint.h>
+
+#ifdef __cplusplus
+extern "C" {
+#endif
+
+struct sievelast_built {
+    uint64_t row;    /* 0, or 26, 28, 29 */
+    uint64_t length; /* bytes of the frame at the start of space; 0 when refused */
+};
+
+struct sievelast_checked {
+    uint64_t row;    /* 0, or 26, 28, 30 */
+    uint64_t start;  /* where the result starts in reply; 8 when granted, 0 when refused */
+    uint64_t length; /* bytes of the result, which may be 0; 0 when refused */
+};
+
+/* Writes a frame at the start of space: the 36 bytes of the credential, the 28 bytes of the request, the data, and 32 bytes of
+ * digest under the credential key (32 bytes, from whoever issued the credential). Bytes of space after the frame keep their
+ * values; a refused call writes none. */
+struct sievelast_built sievelast_build(const uint8_t *credential, size_t credential_len, const uint8_t *request,
+                                       size_t request_len, const uint8_t *data, size_t data_len, const uint8_t *key,
+                                       size_t key_len, uint8_t *space, size_t space_len);
+
+/* Checks a drive's reply against the records that its frame was built from, and says where in it the result stands. At level 2
+ * the reply's digest is checked under the credential key. Only a result with row 0 may be believed. */
+struct sievelast_checked sievelast_check(const uint8_t *credential, size_t credential_len, const uint8_t *request,
+                                         size_t request_len, const uint8_t *key, size_t key_len, const uint8_t *reply,
+                                         size_t reply_len);
+
+#ifdef __cplusplus
+}
+#endif
+
+#endif

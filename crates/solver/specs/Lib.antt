@@ -1,0 +1,3 @@
+-- What the two exported calls answer.
+pub mod Told
+pub mod Laws

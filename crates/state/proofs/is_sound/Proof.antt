@@ -1,0 +1,16 @@
+-- The test is the rule's, term by term.
+use mathlib.Core.Path.{refl}
+use borrow.Author.Needs.{needs}
+use Rattle.rules.specs.Drive.{soundObject}
+use Rattle.state.proofs.is_sound.Statement.{statement}
+use Rattle.state.proofs.is_sound.Tie as tie
+
+returns : tie.Need-returns
+unfolding soundObject
+returns c = refl
+
+pub is-sound-spec : {M : Type 1} → statement M
+is-sound-spec =
+    tie.close
+    (tie.spec
+    (λ c. search needs) (λ c. search needs) (λ c. search needs) returns)

@@ -1,0 +1,19 @@
+-- `wire::numbers` meets its contract.
+use Rattle.wire.specs.Parse.{requestTold}
+use Rattle.wire.proofs.numbers.Statement.{statement}
+use Rattle.wire.proofs.numbers.Tie as tie
+
+returns : tie.Need-returns
+unfolding requestTold
+returns c =
+    rw (
+      c .second-number .ensures,
+      c .before .first-number .ensures,
+      c .before .before .operation-number .ensures,
+    )
+
+pub numbers-spec : {M : Type 1} → statement M
+numbers-spec =
+    tie.close
+    (tie.spec
+    (λ c κs. tt) (λ c κs. tt) (λ c κs. tt) returns)

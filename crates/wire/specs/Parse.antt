@@ -1,0 +1,107 @@
+-- Document 01, "Request, 28 bytes, and frame": "Parsing answers with the fields or with a row". What an answer tells,
+-- and what a frame's answer has to tell.
+-- f: the frame. c, r: the numbers of its credential and request. p: an answer, q: its request.
+use mathlib.Core.Path.{_≡_}
+use mathlib.Core.Bool.{Bool, _||_, cond}
+use mathlib.Core.List.{List, [], _∷_}
+use Prim.Native.Nat.{ℕ, _+_, _≤_}
+use lib.ListN.{length}
+use Rattle.lemmas.specs.Tests.{_is_, _isnt_}
+use Rattle.lemmas.specs.Rows.{Row, line, firstRow}
+use Rattle.rules.specs.declared.Credential.{Credential}
+use Rattle.rules.specs.declared.Request.{Request}
+use Rattle.rules.specs.Frame.{requestMagic, fields}
+use Rattle.rules.specs.Rows.{leastFrame, row3, row4, wrongData, row6, row7, frameRows}
+use Rattle.wire.specs.declared.Operation.{Operation}
+use Rattle.wire.specs.declared.Operation.the-variants.{Read, Write, Look, Raise, Create, Delete, SetKey}
+use Rattle.wire.specs.declared.ParsedRequest.{ParsedRequest}
+use Rattle.wire.specs.declared.Parsed.{Parsed}
+use Rattle.wire.specs.declared.Parsed.the-variants.{Fields, Refused}
+
+-- ---- an operation's numbers, "1–7", A and B; 0 for an argument that it does not carry
+abbrev pub operationNumber : Operation → ℕ
+operationNumber (Read offset length) = 1
+operationNumber (Write offset length) = 2
+operationNumber Look = 3
+operationNumber Raise = 4
+operationNumber (Create number size) = 5
+operationNumber Delete = 6
+operationNumber (SetKey target) = 7
+
+abbrev pub firstNumber : Operation → ℕ
+firstNumber (Read offset length) = offset
+firstNumber (Write offset length) = offset
+firstNumber Look = 0
+firstNumber Raise = 0
+firstNumber (Create number size) = number
+firstNumber Delete = 0
+firstNumber (SetKey target) = target
+
+abbrev pub secondNumber : Operation → ℕ
+secondNumber (Read offset length) = length
+secondNumber (Write offset length) = length
+secondNumber Look = 0
+secondNumber Raise = 0
+secondNumber (Create number size) = size
+secondNumber Delete = 0
+secondNumber (SetKey target) = 0
+
+-- a parsed request's numbers
+unfoldable pub requestTold : ParsedRequest → Request
+requestTold q = record {
+  magic = requestMagic;
+  operation = operationNumber (q .operation);
+  level = q .level;
+  time = q .time;
+  count = q .count;
+  A = firstNumber (q .operation);
+  B = secondNumber (q .operation);
+  n = q .n;
+}
+
+-- ---- what an answer tells: a row's number, or the numbers of both records
+pub data Told : Type 0 where
+  refusedBy : ℕ → Told
+  fieldsOf : Credential → Request → Told
+
+abbrev pub told : Parsed → Told
+told (Refused row) = refusedBy row
+told (Fields c q) = fieldsOf c (requestTold q)
+
+-- the row that it tells, 0 with fields
+abbrev pub rowTold : Parsed → ℕ
+rowTold (Refused row) = row
+rowTold (Fields c q) = 0
+
+-- ---- what a frame's answer has to tell: the lowest of rows 2 to 7 that applies, or the fields
+unfoldable pub answer : ℕ → Credential → Request → Told
+answer row c r = cond (row is 0) (fieldsOf c r) (refusedBy row)
+
+unfoldable pub frameRow : List ℕ → ℕ
+frameRow f = firstRow (frameRows f (fields f))
+
+unfoldable pub parseOf : List ℕ → Told
+parseOf f = answer (frameRow f) (fields f .cred) (fields f .req)
+
+-- ---- the same from the two records and the frame's length, which has 96 bytes at least: rows 3 to 7
+abbrev pub wrongLength : Request → ℕ → Bool
+wrongLength r len = wrongData r || len isnt leastFrame + r .n
+
+abbrev pub recordRows : Credential → Request → ℕ → List Row
+recordRows c r len =
+    line 3 (row3 c r) ∷ line 4 (row4 c r) ∷ line 5 (wrongLength r len) ∷ line 6 (row6 c r) ∷ line 7 (row7 c r) ∷ []
+
+unfoldable pub recordRow : Credential → Request → ℕ → ℕ
+recordRow c r len = firstRow (recordRows c r len)
+
+unfoldable pub toldOf : Credential → Request → ℕ → Told
+toldOf c r len = answer (recordRow c r len) c r
+
+-- an operation's numbers of which none is lost in the enum: an argument that it does not carry is 0
+pub record Whole (op a b : ℕ) : Type 0 where
+  pub low : 1 ≤ op
+  pub high : op ≤ 7
+  pub look : op ≡ 3 → (a ≡ 0) × (b ≡ 0)
+  pub raise : op ≡ 4 → (a ≡ 0) × (b ≡ 0)
+  pub delete : op ≡ 6 → (a ≡ 0) × (b ≡ 0)
+  pub key : op ≡ 7 → b ≡ 0

@@ -1,0 +1,142 @@
+-- Laws of the parse's answer. For a caller: what each arm of `let Parsed::Fields(c, q) = parse(f) else ..` knows.
+use mathlib.Core.Path.{_≡_, refl, sym, _∙_}
+use mathlib.Core.Bool.{Bool, true, false, _||_, cond, true≢false}
+use mathlib.Core.List.{List}
+use Prim.Native.Nat.{ℕ, _≤_, _<_}
+use lib.ListN.{length}
+use borrow.Author.Tests.{ltb-false, eqb-true, eqb-false, lt-ltb, le-ltb, not-false}
+use Rattle.lemmas.specs.Tests.{_is_, _isnt_, and-false, or-l, or-r, none-of}
+use Rattle.lemmas.specs.Lists.{every}
+use Rattle.lemmas.specs.Rows.{firstRow, applies, none-applies}
+use Rattle.rules.specs.declared.Credential.{Credential}
+use Rattle.rules.specs.declared.Request.{Request}
+use Rattle.rules.specs.Frame.{credentialMagic, requestMagic, requestStart, credentialAt, requestAt, fields}
+use Rattle.rules.specs.Rows.{row6, outsideCredential, requestFaults, outsideRequest, misfits, frameRows}
+use Rattle.wire.specs.declared.Operation.{Operation}
+use Rattle.wire.specs.declared.ParsedRequest.{ParsedRequest}
+use Rattle.wire.specs.declared.Parsed.{Parsed}
+use Rattle.wire.specs.declared.Parsed.the-variants.{Fields, Refused}
+use Rattle.wire.specs.Parse.{
+  operationNumber,
+  firstNumber,
+  secondNumber,
+  requestTold,
+  Told,
+  refusedBy,
+  fieldsOf,
+  told,
+  rowTold,
+  answer,
+  frameRow,
+  parseOf,
+  recordRows,
+  recordRow,
+  toldOf,
+  Whole,
+}
+
+-- ---- for a caller
+-- fields: no row from 2 to 7 applies, and they are the frame's
+pub fields-told : (f : List ℕ) (c : Credential) (q : ParsedRequest) → told (Fields c q) ≡ parseOf f
+    → (frameRow f ≡ 0) × (c ≡ fields f .cred) × (requestTold q ≡ fields f .req)
+unfolding parseOf answer
+fields-told f c q e = go (frameRow f is 0) refl e
+  where
+    go : (b : Bool) → (frameRow f is 0) ≡ b
+        → fieldsOf c (requestTold q) ≡ cond b (fieldsOf (fields f .cred) (fields f .req)) (refusedBy (frameRow f))
+        → (frameRow f ≡ 0) × (c ≡ fields f .cred) × (requestTold q ≡ fields f .req)
+    go true z e = (eqb-true (frameRow f) 0 z, cc, cc)
+    go false z e = (cc, cc, cc)
+
+-- a row: it is the frame's, and not 0
+pub refused-told : (f : List ℕ) (row : ℕ) → told (Refused row) ≡ parseOf f → (row ≡ frameRow f) × (row ≡ 0 → ⊥)
+unfolding parseOf answer
+refused-told f row e = go (frameRow f is 0) refl e
+  where
+    go : (b : Bool) → (frameRow f is 0) ≡ b
+        → refusedBy row ≡ cond b (fieldsOf (fields f .cred) (fields f .req)) (refusedBy (frameRow f))
+        → (row ≡ frameRow f) × (row ≡ 0 → ⊥)
+    go true z e = (cc, λ h. let no : true ≡ false = cc in absurd (true≢false no))
+    go false z e = let r : row ≡ frameRow f = cc in (r, λ h. eqb-false (frameRow f) 0 z (sym r ∙ h))
+
+-- either way, `row_of` gives the frame's row
+pub row-told : (f : List ℕ) (p : Parsed) → told p ≡ parseOf f → rowTold p ≡ frameRow f
+row-told f (Refused row) e = refused-told f row e .0
+row-told f (Fields c q) e = sym (fields-told f c q e .0)
+
+-- ---- for the parse itself: a short frame, and one with room for the records
+pub short-told : (f : List ℕ) → length f < 96 → parseOf f ≡ refusedBy 2
+unfolding parseOf frameRow frameRows firstRow answer
+short-told f h = rw (lt-ltb (length f) 96 h)
+
+pub long-told : (f : List ℕ) → 96 ≤ length f
+    → parseOf f ≡ toldOf (credentialAt f 0) (requestAt f requestStart) (length f)
+unfolding parseOf toldOf frameRow recordRow frameRows firstRow fields
+long-told f h = rw (le-ltb (length f) 96 h)
+
+both-zero : (a b : ℕ) → (a isnt 0 || b isnt 0) ≡ false → (a ≡ 0) × (b ≡ 0)
+both-zero a b e = (
+  eqb-true a 0 (not-false (a is 0) (or-l (a isnt 0) (b isnt 0) e)),
+  eqb-true b 0 (not-false (b is 0) (or-r (a isnt 0) (b isnt 0) e)),
+)
+
+-- no row from 3 to 7 applies
+module _ (c : Credential) (r : Request) (len : ℕ) (clear : recordRow c r len ≡ 0) where
+  -- the test numbered k fails
+  fails : (k : ℕ) → applies k (recordRows c r len) ≡ false
+  unfolding every recordRow
+  fails k = none-applies (recordRows c r len) refl clear k
+
+  marked : r .magic ≡ requestMagic
+  unfolding applies
+  marked =
+      eqb-true (r .magic) requestMagic
+      (not-false (r .magic is requestMagic)
+      (or-r (c .magic isnt credentialMagic) (r .magic isnt requestMagic) (fails 3)))
+
+  within : outsideRequest r ≡ false
+  unfolding applies
+  within = or-r (outsideCredential c) (outsideRequest r) (fails 4)
+
+  fitting : row6 c r ≡ false
+  unfolding applies
+  fitting = fails 6
+
+  -- A and B are 0 for operations 3, 4 and 6
+  bare : (r .operation is 3 || r .operation is 4 || r .operation is 6) ≡ true → (r .A ≡ 0) × (r .B ≡ 0)
+  bare h =
+      both-zero (r .A) (r .B)
+      (and-false (r .operation is 3 || r .operation is 4 || r .operation is 6) (r .A isnt 0 || r .B isnt 0) h
+      (none-of (misfits c r) fitting 4))
+
+  -- and B is 0 for operation 7
+  keyless : (r .operation is 7) ≡ true → r .B ≡ 0
+  keyless h =
+      eqb-true (r .B) 0
+      (not-false (r .B is 0) (and-false (r .operation is 7) (r .B isnt 0) h (none-of (misfits c r) fitting 6)))
+
+  -- the operation's enum loses nothing
+  pub whole : Whole (r .operation) (r .A) (r .B)
+  whole = record {
+    low = ltb-false (r .operation) 1 (none-of (requestFaults r) within 0);
+    high = ltb-false 7 (r .operation) (none-of (requestFaults r) within 1);
+    look = λ h. bare (rw h);
+    raise = λ h. bare (rw h);
+    delete = λ h. bare (rw h);
+    key = λ h. keyless (rw h);
+  }
+
+  -- and neither does the parsed request
+  pub kept : (o : Operation) → operationNumber o ≡ r .operation → firstNumber o ≡ r .A → secondNumber o ≡ r .B
+      → requestTold (record { operation = o; level = r .level; time = r .time; count = r .count; n = r .n }) ≡ r
+  unfolding requestTold
+  kept o e a b = λ i. record {
+    magic = sym marked i;
+    operation = e i;
+    level = r .level;
+    time = r .time;
+    count = r .count;
+    A = a i;
+    B = b i;
+    n = r .n;
+  }
