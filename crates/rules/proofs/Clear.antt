@@ -287,8 +287,8 @@ module _ (d : Drive) (m f : List ℕ) (clock : ℕ) (space : List ℕ) (g : firs
       let h6 : (fields f .req .A is 0 || fields f .req .B is 0) ≡ false =
       and-false (fields f .req .operation is 5) (fields f .req .A is 0 || fields f .req .B is 0) k
       (none-of (misfits (fields f .cred) (fields f .req)) clear6 5) in
-      let a0 : fields f .req .A ≡ 0 → ⊥ = eqb-false (fields f .req .A) 0 (search (or-l, or-r)) in
-      let b0 : fields f .req .B ≡ 0 → ⊥ = eqb-false (fields f .req .B) 0 (search (or-l, or-r)) in
+      let a0 : fields f .req .A ≡ 0 → ⊥ = eqb-false (fields f .req .A) 0 (or-l (fields f .req .A is 0) (fields f .req .B is 0) h6) in
+      let b0 : fields f .req .B ≡ 0 → ⊥ = eqb-false (fields f .req .B) 0 (or-r (fields f .req .A is 0) (fields f .req .B is 0) h6) in
       let full : length here ≡ 16 → ⊥ = eqb-false (length here) 16
       (and-false (fields f .req .operation is 5) (length here is 16) k clear19) in
       record {

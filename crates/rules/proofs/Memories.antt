@@ -1,10 +1,10 @@
 -- The replay memories: a grant's entry is there and drops no other; an entry stays while its time and 5,000 are at
 -- least the mark; row 22
 -- leaves room for one more.
-use mathlib.Core.Path.{_≡_, refl}
+use mathlib.Core.Path.{_≡_, refl, subst}
 use mathlib.Core.Bool.{Bool, false, true}
 use mathlib.Core.List.{[], _∷_, List}
-use Prim.Native.Nat.{_+_, _<_, ℕ}
+use Prim.Native.Nat.{_+_, _<_, _≤_, ℕ}
 use native.Mathlib.Omega.{arith}
 use lib.Dec.{eqb, leb}
 use lib.ListN.{length, length-append}
@@ -51,5 +51,10 @@ unfolding sameEntry
 same-entry a = search (both, eqb-self)
 
 -- an entry whose time and 5,000 are not under the mark is not dropped
+not-under : (mark t : ℕ) → (t < mark → ⊥) → mark ≤ t
+not-under mark t h = omega arith
+
 pub still-lives : (mark : ℕ) (a e : Entry) → (a .time + 5000 < mark → ⊥) → sameEntry a e ≡ true → lives mark e ≡ true
-still-lives mark a e h s = le-leb mark (e .time + 5000) (omega (arith, same-time a e s))
+still-lives mark a e h s =
+    le-leb mark (e .time + 5000)
+    (subst (λ (t : ℕ). mark ≤ t + 5000) (same-time a e s) (not-under mark (a .time + 5000) h))

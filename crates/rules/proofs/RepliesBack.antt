@@ -14,39 +14,25 @@ use Rattle.lemmas.specs.ListLaws.{every-member, found}
 use Rattle.lemmas.specs.Lists.{part, same, splice}
 use Rattle.lemmas.specs.Parts.{length-part}
 use Rattle.lemmas.specs.Rows.{firstRow}
+use Rattle.lemmas.specs.Same.{same-refl}
 use Rattle.lemmas.specs.Tests.{_is_, _isnt_, _over_, and-l, and-r, or-intro-l}
+use Rattle.digest.specs.Hmac.{hmac}
+use Rattle.digest.specs.Laws.{length-hmac}
 use Rattle.rules.specs.declared.Object.{Object}
 use Rattle.rules.specs.declared.Request.{Request}
 use Rattle.rules.specs.Client.{badRecords, buildRows, check, checkRows, frameOf, row30}
 use Rattle.rules.specs.Demands.{RepliesBack}
-use Rattle.digest.specs.Hmac.{hmac}
-use Rattle.digest.specs.Laws.{length-hmac}
 use Rattle.rules.specs.Drive.{Drive, Partition, partitionAt, quarter, refresh, sound, soundObject, Tables}
 use Rattle.rules.specs.Frame.{Fields, fields, operationOf, requestAt}
 use Rattle.rules.specs.Gate.{Answer, Call, gate, granted}
 use Rattle.rules.specs.Ledger.{start}
-use Rattle.rules.specs.Operations.{
-  credentialKey,
-  extentStart,
-  head,
-  headed,
-  named,
-  noObject,
-  objectOf,
-  reply,
-  replyCovered,
-  replyLength,
-  result,
-  resultLength,
-  sealed,
-}
+use Rattle.rules.specs.Operations.{credentialKey, extentStart, head, headed, named, noObject, objectOf, reply, replyCovered, replyLength, result, resultLength, sealed}
 use Rattle.rules.specs.Rows.{moves, rows}
 use Rattle.rules.proofs.Answers.{gate-granted, gate-row}
 use Rattle.rules.proofs.Clear.{in-four, in-object, is-known, is-sound, read-moves, size-is, there}
 use Rattle.rules.proofs.Holds.{quarter-in}
 use Rattle.rules.proofs.RoundTrip.{built-fields, key-long, parts, records}
 use Rattle.rules.proofs.Shown.{reply-length, result-length}
-use Rattle.rules.proofs.Signed.{same-self}
 use Rattle.rules.proofs.Sound.{at-sound, object-is, partition-is, SoundObject, SoundTables}
 
 -- ---- the parts of a reply: head, result, and what follows
@@ -203,7 +189,7 @@ module _
         ap (λ (l : List ℕ). same l (head (y .req) (resultLength (y .req))))
         (ap (take 8) whole-is ∙ take-head top res tail (resultLength (y .req)) length-top length-res
         ∙ ap (head (y .req)) length-res)
-        ∙ same-self (head (y .req) (resultLength (y .req)))
+        ∙ same-refl (head (y .req) (resultLength (y .req)))
 
     digest-same : (y .req .level is 2) ≡ true
         → same (part whole (8 + resultLength (y .req)) 32)
@@ -219,7 +205,7 @@ module _
         ∙ part-tail top res tail n length-top length-res long in
         let front : take (8 + n) whole ≡ top ++ res = ap (take (8 + n)) whole-is
         ∙ take-front top res tail n length-top length-res in
-        rw (left, front, k, sealed-is) (same-self (hmac (credentialKey (u .keys) y)
+        rw (left, front, k, sealed-is) (same-refl (hmac (credentialKey (u .keys) y)
         (replyCovered (y .credential) (y .request) (top ++ res))))
 
     abbrev wrong : Fields → Bool

@@ -8,104 +8,25 @@ use Prim.Native.Nat.{_%_, _+_, min, suc, zero, ℕ}
 use native.Mathlib.Nat.{suc-inj, suc-ne-zero}
 use native.Mathlib.Omega.{arith}
 use lib.ListN.{drop, getD, length, replicate, take}
-use borrow.Author.Tests.{eq-eqb, ne-eqb}
+use borrow.Author.Tests.{ne-eqb}
 use Rattle.lemmas.specs.BigEndian.{bigEndian, digit, encode, numberAt}
 use Rattle.lemmas.specs.Lists.{change, every, find, keep, missing, pairs, part, same, some?, splice, update}
 use Rattle.lemmas.specs.Rows.{firstRow, line, Row}
-use Rattle.lemmas.specs.Tests.{_is_, both}
+use Rattle.lemmas.specs.Same.{same-refl}
+use Rattle.lemmas.specs.Tests.{_is_}
+use Rattle.digest.specs.Hmac.{hmac}
+use Rattle.digest.specs.Laws.{length-hmac}
 use Rattle.rules.specs.declared.Credential.{Credential}
 use Rattle.rules.specs.declared.Object.{Object}
 use Rattle.rules.specs.declared.Request.{Request}
 use Rattle.rules.specs.BestFit.{bestFit, bestOf, better, free, gaps, next, spot}
 use Rattle.rules.specs.Client.{frameOf}
 use Rattle.rules.specs.Demands.{answer, State, step}
-use Rattle.digest.specs.Hmac.{hmac}
-use Rattle.digest.specs.Laws.{length-hmac}
-use Rattle.rules.specs.Drive.{
-  Drive,
-  format,
-  formatRows,
-  quarter,
-  refresh,
-  sameEntry,
-  sound,
-  soundObject,
-  soundPartition,
-  Tables,
-}
-use Rattle.rules.specs.Frame.{
-  covered,
-  create,
-  credentialAt,
-  credentialBytes,
-  delete,
-  entry,
-  Fields,
-  fields,
-  look,
-  memory,
-  Operation,
-  operation,
-  operationOf,
-  raise,
-  read,
-  requestAt,
-  requestBytes,
-  setKey,
-  unknown,
-  write,
-}
+use Rattle.rules.specs.Drive.{Drive, format, formatRows, quarter, refresh, sameEntry, sound, soundObject, soundPartition, Tables}
+use Rattle.rules.specs.Frame.{covered, create, credentialAt, credentialBytes, delete, entry, Fields, fields, look, memory, Operation, operation, operationOf, raise, read, requestAt, requestBytes, setKey, unknown, write}
 use Rattle.rules.specs.Gate.{Answer, Call, gate, granted, left, refused}
-use Rattle.rules.specs.Operations.{
-  created,
-  credentialKey,
-  deleted,
-  digestOf,
-  driveAfter,
-  remember,
-  extentStart,
-  head,
-  headed,
-  keyIn,
-  keySet,
-  mediumAfter,
-  named,
-  newKey,
-  objectOf,
-  placeOf,
-  present,
-  raised,
-  reply,
-  replyLength,
-  result,
-  sealed,
-  signing,
-  startOf,
-  tablesAfter,
-  keyPut,
-}
-use Rattle.rules.specs.Rows.{
-  driveRows,
-  frameRows,
-  remembered,
-  row1,
-  row10,
-  row11,
-  row12,
-  row13,
-  row14,
-  row15,
-  row16,
-  row17,
-  row18,
-  row19,
-  row20,
-  row21,
-  row22,
-  row8,
-  row9,
-  rows,
-}
+use Rattle.rules.specs.Operations.{created, credentialKey, deleted, digestOf, driveAfter, extentStart, head, headed, keyIn, keyPut, keySet, mediumAfter, named, newKey, objectOf, placeOf, present, raised, remember, reply, replyLength, result, sealed, signing, startOf, tablesAfter}
+use Rattle.rules.specs.Rows.{driveRows, frameRows, remembered, row1, row10, row11, row12, row13, row14, row15, row16, row17, row18, row19, row20, row21, row22, row8, row9, rows}
 
 -- ---- the n bytes of a list, one by one: so that its length is seen without its being opened
 unfoldable pub spread : ℕ → List ℕ → List ℕ
@@ -148,13 +69,8 @@ frame-built key c r payload e =
     refl
 
 -- ---- row 9 of both
-pub same-self : (l : List ℕ) → same l l ≡ true
-unfolding same
-same-self [] = refl
-same-self (x ∷ xs) = both (eq-eqb x x refl) (same-self xs)
-
 pub right-passes : (h : List ℕ) → length h ≡ 32 → not (same (spread 32 h) h) ≡ false
-right-passes h e = ap not (ap (λ (l : List ℕ). same l h) (spread-all 32 h e) ∙ same-self h)
+right-passes h e = ap not (ap (λ (l : List ℕ). same l h) (spread-all 32 h e) ∙ same-refl h)
 
 pub wrong-fails : (h : List ℕ) → length h ≡ 32 → not (same (wrong h) h) ≡ true
 unfolding wrong same

@@ -1,6 +1,5 @@
 // Rows 3 to 7 of a frame's records, each a test with no branch; then the operation's own arguments.
 ghost use mathlib.Core.Path.{_≡_};
-ghost use mathlib.Core.Bool.{cond};
 ghost use Prim.Native.Nat.{_+_, _≤_};
 ghost use lib.ListN.{length};
 ghost use Rattle.rules.specs.Frame.{requestSize, requestAt};
@@ -19,6 +18,7 @@ use crate::Operation;
 use crate::Parsed;
 use crate::ParsedRequest;
 use crate::fields;
+use lemmas::pick;
 
 // Row 3.
 pub fn bad_magic(c: rules::Credential, q: rules::Request) -> bool
@@ -49,12 +49,6 @@ pub fn outside(c: rules::Credential, q: rules::Request) -> bool
     ensures { λ r. ⌜ r ≡ row4 c q ⌝ }
 {
     outside_credential(c) | outside_request(q)
-}
-
-fn pick(t: bool, yes: u32, no: u32) -> u32
-    ensures { λ r. ⌜ r ≡ cond t yes no ⌝ }
-{
-    if t { yes } else { no }
 }
 
 // The data's length that the operation calls for.

@@ -8,7 +8,7 @@ use lib.ListN.{length, length-map, List·getD-eq-default}
 use borrow.Author.Needs.{needs}
 use Rattle.lemmas.specs.ListLaws.{nth-map}
 use Rattle.keyring.specs.View.{keyOf}
-use Rattle.keyring.proofs.Arrays.{unmapped}
+use Rattle.lemmas.specs.Loops.{unmapped}
 use Rattle.keyring.proofs.key_at.Statement.{statement}
 use Rattle.keyring.proofs.key_at.Tie as tie
 

@@ -8,7 +8,7 @@ use lib.ListN.{length, length-map}
 use borrow.Author.Needs.{needs}
 use Rattle.lemmas.specs.ListLaws.{set-update, update-past}
 use Rattle.keyring.specs.View.{keyOf}
-use Rattle.keyring.proofs.Arrays.{unmapped}
+use Rattle.lemmas.specs.Loops.{unmapped}
 use Rattle.keyring.proofs.with_key_at.Statement.{statement}
 use Rattle.keyring.proofs.with_key_at.Tie as tie
 
