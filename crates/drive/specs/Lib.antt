@@ -1,0 +1,3 @@
+-- The record as the rules see it, and the promises of format and gate.
+pub mod View
+pub mod Met

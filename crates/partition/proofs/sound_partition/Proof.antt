@@ -1,0 +1,17 @@
+-- sound-viewed.
+use mathlib.Core.Path.{_≡_}
+use lib.ListN.{length}
+use borrow.Author.Needs.{needs}
+use Rattle.lemmas.specs.Loops.{unmapped}
+use Rattle.partition.specs.Partition.{sound-viewed}
+use Rattle.partition.proofs.sound_partition.Statement.{statement}
+use Rattle.partition.proofs.sound_partition.Tie as tie
+
+returns : tie.Need-returns
+returns c =
+    let a = c .before .before .before .args in
+    let long : length (a .p .objects .items) ≡ 16 = search (needs, unmapped) in
+    rw (sound-viewed (a .quarter) (a .p) long, c .sound-objects .ensures)
+
+pub sound-partition-spec : {M : Type 1} → statement M
+sound-partition-spec = tie.close (tie.spec (λ c κs. search needs) returns)
