@@ -1,0 +1,15 @@
+use mathlib.Core.Path.{refl}
+use Rattle.judge.specs.Judge.{entryOf}
+use borrow.Author.Needs.{needs}
+use Rattle.judge.proofs.entry_of.Statement.{statement}
+use Rattle.judge.proofs.entry_of.Tie as tie
+
+returns : tie.Need-returns
+unfolding entryOf
+returns c = refl
+
+pub entry-of-spec : {M : Type 1} → statement M
+entry-of-spec =
+    tie.close
+    (tie.spec
+    returns)

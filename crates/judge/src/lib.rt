@@ -1,0 +1,164 @@
+// Rows 10 to 23 of document 01, judged of one partition and one replay memory, which has no outlived entry. Every test
+// is made whatever the others say; the lowest row that applies is the answer.
+ghost use mathlib.Core.Path.{_≡_};
+ghost use mathlib.Core.Bool.{not, cond};
+ghost use Prim.Native.Nat.{_-_};
+ghost use Rattle.lemmas.specs.Rows.{firstRow};
+ghost use Rattle.lemmas.specs.Lists.{missing};
+ghost use Rattle.rules.specs.Rows.{untimely, bit, outOfRange};
+ghost use Rattle.memory.specs.Memory.{entriesOf};
+ghost use Rattle.partition.specs.Partition.{partitionOf};
+ghost use Rattle.placing.specs.Placing.{told};
+ghost use Rattle.wire.specs.Parse.{operationNumber, requestTold};
+ghost use Rattle.judge.specs.Judge.{entryOf, placeFor, presentIn, timeRow, objectRow, roomRow, judgeRows};
+use lemmas::pick;
+use memory::Memory;
+use partition::Partition;
+use partition::Target;
+use placing::Place;
+use rules::Credential;
+use rules::Entry;
+use rules::Request;
+use state::Objects;
+use wire::Operation;
+use wire::ParsedRequest;
+
+// The nonce of a frame: what a grant enters.
+pub fn entry_of(c: Credential, r: Request) -> Entry
+    ensures { λ e. ⌜ e ≡ entryOf c r ⌝ }
+{
+    Entry {
+        slot: c.slot,
+        holder: c.holder,
+        time: r.time,
+        count: r.count,
+    }
+}
+
+// Where a new object's extent starts; nowhere where none is asked for.
+pub fn place_for(os: Objects, quarter: u32, r: Request) -> Place
+    ensures { λ p. ⌜ told p ≡ placeFor quarter os r ⌝ }
+{
+    if r.operation != 5 {
+        return Place::Nowhere;
+    }
+    placing::best_fit(1, quarter, r.B, os)
+}
+
+// Whether there is no place for a new extent.
+fn is_nowhere(p: Place) -> bool
+    ensures { λ r. ⌜ r ≡ missing (told p) ⌝ }
+{
+    match p {
+        Place::At(_) => false,
+        Place::Nowhere => true,
+    }
+}
+
+// Row 11, in differences: a sum with 5,000 could pass 64 bits.
+fn is_untimely(mark: u64, time: u64) -> bool
+    ensures { λ r. ⌜ r ≡ untimely mark time ⌝ }
+{
+    if time < mark {
+        return 5000 < mark - time;
+    }
+    5000 < time - mark
+}
+
+// Row 13: whether the rights have the operation's bit.
+fn has_right(o: Operation, rights: u16) -> bool
+    ensures { λ r. ⌜ r ≡ bit (operationNumber o - 1) rights ⌝ }
+{
+    match o {
+        Operation::Read {
+            offset: _,
+            length: _,
+        } => rights % 2 == 1,
+        Operation::Write {
+            offset: _,
+            length: _,
+        } => rights / 2 % 2 == 1,
+        Operation::Look => rights / 4 % 2 == 1,
+        Operation::Raise => rights / 8 % 2 == 1,
+        Operation::Create { number: _, size: _ } => rights / 16 % 2 == 1,
+        Operation::Delete => rights / 32 % 2 == 1,
+        Operation::SetKey { target: _ } => rights / 64 % 2 == 1,
+    }
+}
+
+// Rows 10 to 13: expiry, time, nonce, right.
+fn time_row(mark: u64, m: Memory, c: Credential, q: ParsedRequest, r: Request, rest: u32) -> u32
+    ensures { λ x. ⌜ x ≡ timeRow mark (entriesOf m) c (operationNumber (q .operation)) r rest ⌝ }
+{
+    let o = q.operation;
+    let x = pick(!has_right(o, c.rights), 13, rest);
+    let x = pick(memory::holds(m, entry_of(c, r)), 12, x);
+    let x = pick(is_untimely(mark, r.time), 11, x);
+    pick(c.expiry < mark, 10, x)
+}
+
+// The present version: object 0 means the partition.
+pub fn present(p: Partition, number: u32, t: Target) -> u32
+    ensures { λ r. ⌜ r ≡ presentIn p number t ⌝ }
+{
+    pick(number == 0, p.version, t.object.version)
+}
+
+// Row 16's test: not within the credential's range.
+fn is_out_of_range(first: u32, end: u32, from: u32, count: u32) -> bool
+    ensures { λ r. ⌜ r ≡ outOfRange first end from count ⌝ }
+{
+    !((first <= from) & (from as u64 + count as u64 <= end as u64))
+}
+
+// Rows 14 to 17: object, version, range, size.
+fn object_row(c: Credential, r: Request, t: Target, version: u32, rest: u32) -> u32
+    ensures { λ x. ⌜ x ≡ objectRow c r t version rest ⌝ }
+{
+    let o = t.object;
+    let moves = (r.operation == 1) | (r.operation == 2);
+    let x = pick(
+        moves & ((o.size as u64) < r.A as u64 + r.B as u64),
+        17,
+        rest,
+    );
+    let x = pick(moves & is_out_of_range(c.first, c.end, r.A, r.B), 16, x);
+    let x = pick((r.operation < 7) & (c.version != version), 15, x);
+    pick((c.object != 0) & t.missing, 14, x)
+}
+
+// Rows 18 to 23: number, objects, place, versions, memory, reply space.
+fn room_row(p: Partition, m: Memory, r: Request, place: Place, space: usize) -> u32
+    ensures { λ x. ⌜ x ≡ roomRow (partitionOf p) (entriesOf m) r (told place) space ⌝ }
+{
+    let os = p.objects;
+    let taken = partition::named(p, r.A);
+    let gives = (r.operation == 4) | (r.operation == 5);
+    let creates = r.operation == 5;
+    let x = pick((space as u64) < reply::reply_length(r), 23, 0);
+    let x = pick(memory::entry_count(m) == 64, 22, x);
+    let x = pick(gives & (p.last == 4294967295), 21, x);
+    let x = pick(creates & is_nowhere(place), 20, x);
+    let x = pick(creates & (state::object_count(os) == 16), 19, x);
+    pick(creates & !taken.missing, 18, x)
+}
+
+// The lowest of rows 10 to 23 that applies, or 0.
+pub fn judge(
+    mark: u64,
+    p: Partition,
+    m: Memory,
+    c: Credential,
+    q: ParsedRequest,
+    place: Place,
+    space: usize,
+) -> u32
+    ensures { λ x. ⌜ x ≡ firstRow (judgeRows mark (partitionOf p) (entriesOf m) c (requestTold q) (told place) space) ⌝ }
+{
+    let r = wire::numbers(q);
+    let t = partition::named(p, c.object);
+    let v = present(p, c.object, t);
+    let x = room_row(p, m, r, place, space);
+    let x = object_row(c, r, t, v, x);
+    time_row(mark, m, c, q, r, x)
+}
