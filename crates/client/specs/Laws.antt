@@ -20,7 +20,8 @@ use Rattle.rules.specs.Client.{badRecords, build, buildRows, check, checkRows, 
 use Rattle.rules.specs.Frame.{covered, credentialAt, credentialBytes, credentialNumbers, credentialWidths, requestAt}
 use Rattle.rules.specs.Operations.{head, replyCovered, replyLength, resultLength}
 use Rattle.rules.specs.Rows.{row3, row4, row6, row7, wrongData}
-use Rattle.wire.specs.Numbers.{bytesPut, credentialPut, noRequest, requestOf}
+use Rattle.octets.specs.Numbers.{bytesPut}
+use Rattle.fields.specs.Records.{credentialPut, noRequest, requestOf}
 use Rattle.client.specs.declared.Built.{Built}
 use Rattle.client.specs.declared.Issued.{Issued}
 use Rattle.client.specs.Met.{BuildMet, CheckMet, IssueMet}

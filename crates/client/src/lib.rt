@@ -26,7 +26,7 @@ pub fn issue(fields: rules::Credential, key: &[u8], space: &mut [u8]) -> Issued
         let zeros = [0u8; 32];
         return Issued { row, key: zeros };
     }
-    wire::put_credential(fields, space);
+    fields::put_credential(fields, space);
     let secret = mac::of(key, &space[..36]);
     Issued {
         row: 0,
@@ -42,7 +42,7 @@ pub fn build(credential: &[u8], request: &[u8], bytes: &[u8], key: &[u8], space:
     if row != 0 {
         return Built { row, length: 0 };
     }
-    let r = wire::request_of(request);
+    let r = fields::request_of(request);
     let digest = rows::frame_digest(credential, request, bytes, key, r.level);
     rows::join(credential, request, bytes, &digest, space);
     Built {
@@ -64,7 +64,7 @@ pub fn check<'a>(
     let found = rows::check_row(credential, request, key, reply);
     *row = found;
     if found == 0 {
-        let n = reply::result_length(wire::request_of(request)) as usize;
+        let n = reply::result_length(fields::request_of(request)) as usize;
         let end = 8 + n;
         &reply[8..end]
     } else {

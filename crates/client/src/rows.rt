@@ -19,7 +19,7 @@ pub fn issue_row(c: rules::Credential, key: usize, space: usize) -> u32
     ensures { λ r. ⌜ r ≡ issueRow c key space ⌝ }
 {
     let r = pick(space < 36, 29, 0);
-    let r = pick(wire::bad_credential(c), 28, r);
+    let r = pick(record_rows::bad_credential(c), 28, r);
     pick(key != 32, 26, r)
 }
 
@@ -37,10 +37,10 @@ fn lacks_room(space: usize, n: usize) -> bool
 pub fn build_row(credential: &[u8], request: &[u8], n: usize, key: usize, space: usize) -> u32
     ensures { λ r. ⌜ r ≡ buildRow (now (credential .entry)) (now (request .entry)) n key space ⌝ }
 {
-    let q = wire::request_of(request);
+    let q = fields::request_of(request);
     let r = pick(lacks_room(space, n), 29, 0);
     let r = pick(
-        wire::bad_records(credential, request) | (q.n as usize != n),
+        record_rows::bad_records(credential, request) | (q.n as usize != n),
         28,
         r,
     );
@@ -68,10 +68,10 @@ pub fn join(credential: &[u8], request: &[u8], bytes: &[u8], digest: &[u8; 32], 
     requires { ⌜ (length (now credential) ≡ 36) × (length (now request) ≡ 28) × (96 + length (now bytes) ≤ length (now space)) ⌝ }
     ensures { λ _. ⌜ now (space .exit) ≡ splice (now (space .entry)) 0 (now (credential .entry) ++ (now (request .entry) ++ (now (bytes .entry) ++ now (digest .entry)))) ⌝ }
 {
-    wire::copy_to(space, 0, credential);
-    wire::copy_to(space, 36, request);
-    wire::copy_to(space, 64, bytes);
-    wire::copy_to(space, 64 + bytes.len(), digest);
+    octets::copy_to(space, 0, credential);
+    octets::copy_to(space, 36, request);
+    octets::copy_to(space, 64, bytes);
+    octets::copy_to(space, 64 + bytes.len(), digest);
 }
 
 // Whether a reply has not the head and the length that the request calls for.
@@ -83,7 +83,7 @@ fn wrong_shape(reply: &[u8], q: rules::Request) -> bool
     }
     let n = reply::result_length(q);
     let head = reply::reply_head(q, n);
-    !wire::same(&reply[..8], &head)
+    !octets::same(&reply[..8], &head)
 }
 
 // Whether a reply's digest, after n bytes of head and result, is another than the one under the credential key.
@@ -92,17 +92,17 @@ fn wrong_digest(credential: &[u8], request: &[u8], key: &[u8], reply: &[u8], n: 
     ensures { λ r. ⌜ r ≡ not (same (part (now (reply .entry)) n 32) (hmac (now (key .entry)) (replyCovered (now (credential .entry)) (now (request .entry)) (take n (now (reply .entry)))))) ⌝ }
 {
     let right = mac::of3(key, credential, request, &reply[..n]);
-    !wire::same(&reply[n..], &right)
+    !octets::same(&reply[n..], &right)
 }
 
 // The reply check's row.
 pub fn check_row(credential: &[u8], request: &[u8], key: &[u8], reply: &[u8]) -> u32
     ensures { λ r. ⌜ r ≡ firstRow (checkRows (now (credential .entry)) (now (request .entry)) (now (key .entry)) (now (reply .entry))) ⌝ }
 {
-    let q = wire::request_of(request);
+    let q = fields::request_of(request);
     let n = reply::result_length(q);
     let r = pick(
-        wire::bad_records(credential, request) | (n > 4194304),
+        record_rows::bad_records(credential, request) | (n > 4194304),
         28,
         0,
     );

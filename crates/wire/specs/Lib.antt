@@ -1,4 +1,3 @@
--- What the crate's contracts say beyond document 01's definitions, and what a caller has of the parse's answer.
-pub mod Numbers
+-- What the parse's answer tells, and what a caller has of it.
 pub mod Parse
 pub mod ParseLaws

@@ -2,16 +2,16 @@
 -- and what a frame's answer has to tell.
 -- f: the frame. c, r: the numbers of its credential and request. p: an answer, q: its request.
 use mathlib.Core.Path.{_≡_}
-use mathlib.Core.Bool.{Bool, _||_, cond}
-use mathlib.Core.List.{List, [], _∷_}
-use Prim.Native.Nat.{ℕ, _+_, _≤_}
-use lib.ListN.{length}
-use Rattle.lemmas.specs.Tests.{_is_, _isnt_}
-use Rattle.lemmas.specs.Rows.{Row, line, firstRow}
+use mathlib.Core.Bool.{cond}
+use mathlib.Core.List.{List}
+use Prim.Native.Nat.{ℕ, _≤_}
+use Rattle.lemmas.specs.Tests.{_is_}
+use Rattle.lemmas.specs.Rows.{firstRow}
 use Rattle.rules.specs.declared.Credential.{Credential}
 use Rattle.rules.specs.declared.Request.{Request}
 use Rattle.rules.specs.Frame.{requestMagic, fields}
-use Rattle.rules.specs.Rows.{leastFrame, row3, row4, wrongData, row6, row7, frameRows}
+use Rattle.rules.specs.Rows.{frameRows}
+use Rattle.record_rows.specs.Refusals.{recordRow}
 use Rattle.wire.specs.declared.Operation.{Operation}
 use Rattle.wire.specs.declared.Operation.the-variants.{Read, Write, Look, Raise, Create, Delete, SetKey}
 use Rattle.wire.specs.declared.ParsedRequest.{ParsedRequest}
@@ -84,16 +84,6 @@ unfoldable pub parseOf : List ℕ → Told
 parseOf f = answer (frameRow f) (fields f .cred) (fields f .req)
 
 -- ---- the same from the two records and the frame's length, which has 96 bytes at least: rows 3 to 7
-abbrev pub wrongLength : Request → ℕ → Bool
-wrongLength r len = wrongData r || len isnt leastFrame + r .n
-
-abbrev pub recordRows : Credential → Request → ℕ → List Row
-recordRows c r len =
-    line 3 (row3 c r) ∷ line 4 (row4 c r) ∷ line 5 (wrongLength r len) ∷ line 6 (row6 c r) ∷ line 7 (row7 c r) ∷ []
-
-unfoldable pub recordRow : Credential → Request → ℕ → ℕ
-recordRow c r len = firstRow (recordRows c r len)
-
 unfoldable pub toldOf : Credential → Request → ℕ → Told
 toldOf c r len = answer (recordRow c r len) c r
 

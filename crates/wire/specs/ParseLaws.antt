@@ -12,6 +12,7 @@ use Rattle.rules.specs.declared.Credential.{Credential}
 use Rattle.rules.specs.declared.Request.{Request}
 use Rattle.rules.specs.Frame.{credentialMagic, requestMagic, requestStart, credentialAt, requestAt, fields}
 use Rattle.rules.specs.Rows.{row6, outsideCredential, requestFaults, outsideRequest, misfits, frameRows}
+use Rattle.record_rows.specs.Refusals.{recordRows, recordRow}
 use Rattle.wire.specs.declared.Operation.{Operation}
 use Rattle.wire.specs.declared.ParsedRequest.{ParsedRequest}
 use Rattle.wire.specs.declared.Parsed.{Parsed}
@@ -29,8 +30,6 @@ use Rattle.wire.specs.Parse.{
   answer,
   frameRow,
   parseOf,
-  recordRows,
-  recordRow,
   toldOf,
   Whole,
 }

@@ -1,15 +1,9 @@
-// Document 01's layouts in bytes: big-endian numbers read and written, the two records, and the parse of a frame (rows
-// 2 to 7).
-mod fields;
-mod reader;
-mod rows;
-
+// The parse of a frame (document 01, rows 2 to 7): its fields, or the row that refuses it.
 ghost use mathlib.Core.Path.{_≡_};
-ghost use Prim.Native.Nat.{_+_, _<_, _^_};
-ghost use Rattle.lemmas.specs.Lists.{same as Lists·same};
-ghost use Rattle.rules.specs.Client.{badRecords};
-ghost use Rattle.wire.specs.Numbers.{numberIn, numberPut, bytesPut, credentialPut, badCredential, requestOf};
 ghost use Rattle.wire.specs.Parse.{operationNumber, firstNumber, secondNumber, requestTold, told, rowTold, parseOf};
+
+mod answer;
+mod reader;
 
 // An operation with its own arguments.
 pub enum Operation {
@@ -35,88 +29,6 @@ pub struct ParsedRequest {
 pub enum Parsed {
     Fields(rules::Credential, ParsedRequest),
     Refused(u32),
-}
-
-// The number that the n bytes from place at on spell; 0 where they are more than eight, or not all there.
-pub fn number(s: &[u8], at: usize, n: usize) -> u64
-    ensures { λ r. ⌜ (r ≡ numberIn (now (s .entry)) at n) × (r < 256 ^ n) ⌝ }
-{
-    if (n > 8) | !fields::fits(s.len(), at, n) {
-        return 0;
-    }
-    fields::number_at(s, at, n)
-}
-
-// Writes x in n bytes from place at on; where they do not fit, nothing is written.
-pub fn put(s: &mut [u8], at: usize, n: usize, x: u64)
-    ensures { λ _. ⌜ now (s .exit) ≡ numberPut (now (s .entry)) at n x ⌝ }
-{
-    if !fields::fits(s.len(), at, n) {
-        return;
-    }
-    fields::put_at(s, at, n, x);
-}
-
-// Whether a and b are the same bytes. Where they are as long as each other every byte of both is read, whatever it is.
-pub fn same(a: &[u8], b: &[u8]) -> bool
-    ensures { λ r. ⌜ r ≡ Lists·same (now (a .entry)) (now (b .entry)) ⌝ }
-{
-    if a.len() != b.len() {
-        return false;
-    }
-    let mut diff: u8 = 0;
-    let mut i: usize = 0;
-    while i < a.len() {
-        diff |= a[i] ^ b[i];
-        i += 1;
-    }
-    diff == 0
-}
-
-// Copies bytes into space from place at on; where they do not fit, nothing is written.
-pub fn copy_to(space: &mut [u8], at: usize, bytes: &[u8])
-    ensures { λ _. ⌜ now (space .exit) ≡ bytesPut (now (space .entry)) at (now (bytes .entry)) ⌝ }
-{
-    if !fields::fits(space.len(), at, bytes.len()) {
-        return;
-    }
-    fields::copy_at(space, at, bytes);
-}
-
-// Writes a credential's 36 bytes at the start of space; where they do not fit, nothing is written.
-pub fn put_credential(c: rules::Credential, space: &mut [u8])
-    ensures { λ _. ⌜ now (space .exit) ≡ credentialPut (now (space .entry)) c ⌝ }
-{
-    if space.len() < fields::CREDENTIAL_SIZE {
-        return;
-    }
-    fields::put_credential_at(space, c);
-}
-
-// Whether a credential's own fields are refused, by row 3 or 4.
-pub fn bad_credential(c: rules::Credential) -> bool
-    ensures { λ r. ⌜ r ≡ badCredential c ⌝ }
-{
-    (c.magic != fields::CREDENTIAL_MAGIC) | rows::outside_credential(c)
-}
-
-// The request that a record of 28 bytes holds; all zeros where it has another length.
-pub fn request_of(request: &[u8]) -> rules::Request
-    ensures { λ r. ⌜ r ≡ requestOf (now (request .entry)) ⌝ }
-{
-    if request.len() != fields::REQUEST_SIZE {
-        return rules::Request {
-            magic: 0,
-            operation: 0,
-            level: 0,
-            time: 0,
-            count: 0,
-            A: 0,
-            B: 0,
-            n: 0,
-        };
-    }
-    fields::request_at(request, 0)
 }
 
 // Rows 2 to 7, or the fields.
@@ -188,7 +100,7 @@ pub fn numbers(q: ParsedRequest) -> rules::Request
 {
     let o = q.operation;
     rules::Request {
-        magic: fields::REQUEST_MAGIC,
+        magic: record_rows::REQUEST_MAGIC,
         operation: operation_number(o),
         level: q.level,
         time: q.time,
@@ -197,20 +109,4 @@ pub fn numbers(q: ParsedRequest) -> rules::Request
         B: second_number(o),
         n: q.n,
     }
-}
-
-// Whether a credential and a request, each a record of its own, are refused: by a length, or by one of rows 3 to 7.
-pub fn bad_records(credential: &[u8], request: &[u8]) -> bool
-    ensures { λ r. ⌜ r ≡ badRecords (now (credential .entry)) (now (request .entry)) ⌝ }
-{
-    if (credential.len() != fields::CREDENTIAL_SIZE) | (request.len() != fields::REQUEST_SIZE) {
-        return true;
-    }
-    let c = fields::credential_at(credential, 0);
-    let q = fields::request_at(request, 0);
-    rows::bad_magic(c, q)
-        | rows::outside(c, q)
-        | rows::wrong_data(q)
-        | rows::misfit(c, q)
-        | rows::low_level(c, q)
 }

@@ -7,8 +7,7 @@ ghost use Rattle.rules.specs.Frame.{credentialSize, requestSize, requestStart, 
 ghost use Rattle.rules.specs.Rows.{leastFrame};
 ghost use Rattle.wire.specs.Parse.{told, toldOf};
 use crate::Parsed;
-use crate::fields;
-use crate::rows;
+use crate::answer;
 
 pub struct Reader<'a> {
     pub src: &'a [u8],
@@ -37,7 +36,7 @@ pub fn credential<'a>(r: Reader<'a>) -> rules::Credential
     requires { ⌜ r .at + credentialSize ≤ length (now (r .src)) ⌝ }
     ensures { λ c. ⌜ c ≡ credentialAt (now (r .entry .src)) (r .entry .at) ⌝ }
 {
-    fields::credential_at(r.src, r.at)
+    answer::credential_at(r.src, r.at)
 }
 
 // The request at the reader's position, behind the credential c: the fields of both, or a row.
@@ -45,7 +44,7 @@ pub fn request<'a>(r: Reader<'a>, c: rules::Credential) -> Parsed
     requires { ⌜ r .at + requestSize ≤ length (now (r .src)) ⌝ }
     ensures { λ p. ⌜ told p ≡ toldOf c (requestAt (now (r .entry .src)) (r .entry .at)) (length (now (r .entry .src))) ⌝ }
 {
-    rows::judge_at(r.src, r.at, c)
+    answer::judge_at(r.src, r.at, c)
 }
 
 // From a frame to its fields: its parameter is a plain slice, so whoever calls it needs no walk by hand.

@@ -9,7 +9,7 @@ use Rattle.lemmas.specs.Lists.{part}
 use Rattle.lemmas.specs.Rows.{firstRow}
 use Rattle.rules.specs.Client.{checkRows}
 use Rattle.rules.specs.Operations.{resultLength}
-use Rattle.wire.specs.Numbers.{requestOf}
+use Rattle.fields.specs.Records.{requestOf}
 use Rattle.client.specs.Met.{CheckMet}
 use Rattle.client.specs.Laws.{check-end, check-granted, check-refused}
 use Rattle.client.proofs.check.Statement.{statement}

@@ -7,7 +7,7 @@ use lib.ListN.{length}
 use borrow.Author.Needs.{needs}
 use Rattle.rules.specs.declared.Request.{Request}
 use Rattle.rules.specs.Operations.{resultLength}
-use Rattle.wire.specs.Numbers.{requestOf}
+use Rattle.fields.specs.Records.{requestOf}
 use Rattle.client.specs.Rows.{wrongShape}
 use Rattle.client.specs.Laws.{earlyRow, check-early, short-result, wrongDigest, check-shape, check-plain, check-sealed, shape-length, sealed-length}
 use Rattle.client.proofs.rows.check_row.Statement.{statement}

@@ -1,4 +1,4 @@
--- `wire::reader::credential` meets its contract: a walk of its MIR, by hand. The struct is taken apart, and `fields::credential_at` is called on the slice and the number.
+-- `wire::reader::credential` meets its contract: a walk of its MIR, by hand. The struct is taken apart, and `answer::credential_at` is called on the slice and the number.
 use mathlib.Core.Path.{_≡_, refl}
 use Prim.Native.Nat.{_+_, _≤_, _<_, _^_}
 use mathlib.Core.List.{[], _∷_}
@@ -47,10 +47,10 @@ use Rattle.wire.proofs.reader.Reader as T
 use Rattle.wire.proofs.reader.Reader.Laws as T′
 use Rattle.rules.proofs.Credential as S
 use Rattle.rules.proofs.Credential.Laws as S′
-use Rattle.wire.proofs.fields.credential_at as core
-use Rattle.wire.proofs.fields.credential_at.Symbol as core-def
-use Rattle.wire.proofs.fields.credential_at.Symbol.{name as #wire·fields·credential-at}
-use Rattle.wire.proofs.fields.credential_at.Met as core-thm
+use Rattle.wire.proofs.answer.credential_at as core
+use Rattle.wire.proofs.answer.credential_at.Symbol as core-def
+use Rattle.wire.proofs.answer.credential_at.Symbol.{name as #wire·answer·credential-at}
+use Rattle.wire.proofs.answer.credential_at.Met as core-thm
 use Rattle.wire.proofs.reader.credential.Key.{name as #wire·reader·credential}
 use Rattle.wire.proofs.reader.credential as credential
 use Rattle.wire.proofs.reader.credential.Statement as stated
@@ -125,7 +125,7 @@ module _ {M : Type 1} (𝓤 : URA M) (H : Heap 𝓤) (A : Atoms 𝓤) (W : Given
       suffices ! _ (ends-at 𝓤 H A credential.ended stayed (credential.clauses 𝓤 H A mem run) W (((κ, tt), (q, tt), tt, (d, tt), (mach ∷ [], tt)), tt) u r (tt, tt) (tt, tt)) $ says ! e $
       move ! (1 ∷ []) $ frame ! $ nothing ! $ move ! (2 ∷ 0 ∷ []) $ fjoin ! $ frame ! $ done !
 
-  module _ (C : Calls 𝓤 H) (Λ : Loops 𝓤 H) (fm : FmC 𝓤 H (W .laws) C) (known : Triple 𝓤 (C #wire·fields·credential-at) (Core 𝓤 H A mem run)) where
+  module _ (C : Calls 𝓤 H) (Λ : Loops 𝓤 H) (fm : FmC 𝓤 H (W .laws) C) (known : Triple 𝓤 (C #wire·answer·credential-at) (Core 𝓤 H A mem run)) where
     walk : Holds (hasTy (T′.mir (named 0)) mach) × WT mach → ent 𝓤 (onEntry 𝓤 H A credential.signature (κ, tt) (q, tt) (d, tt) (mach ∷ [], tt)) (WpFn 𝓤 H C Λ code.function (mach ∷ []) Post)
     walk wt =
         qed W (raw (onEntry 𝓤 H A credential.signature (κ, tt) (q, tt) (d, tt) (mach ∷ [], tt)) ∷ []) ∵ enter ! C Λ code.function (mach ∷ []) _ $
@@ -143,13 +143,13 @@ module _ {M : Type 1} (𝓤 : URA M) (H : Heap 𝓤) (A : Atoms 𝓤) (W : Given
         move ! (9 ∷ 10 ∷ []) $ free1 ! $ move ! (7 ∷ 8 ∷ []) $ free1 ! $ move ! (5 ∷ 6 ∷ []) $ free1 ! $ move ! (3 ∷ 4 ∷ []) $ free1 ! $ free0 ! $ by ! (exits r u e)))))))))
 
 module _ {M : Type 1} (𝓤 : URA M) (H : Heap 𝓤) (A : Atoms 𝓤) (W : Given 𝓤 H A) (mem : Memory → SProp 𝓤) (run : Routine → Fun 𝓤) where
-  credential-walks : (C : Calls 𝓤 H) (Λ : Loops 𝓤 H) → FmC 𝓤 H (W .laws) C → Triple 𝓤 (C #wire·fields·credential-at) (Core 𝓤 H A mem run)
+  credential-walks : (C : Calls 𝓤 H) (Λ : Loops 𝓤 H) → FmC 𝓤 H (W .laws) C → Triple 𝓤 (C #wire·answer·credential-at) (Core 𝓤 H A mem run)
       → Walks 𝓤 H A credential.ended stayed (WpFn 𝓤 H C Λ code.function) (credential.clauses 𝓤 H A mem run)
   credential-walks C Λ fm known = walked 𝓤 H A credential.ended stayed (credential.clauses 𝓤 H A mem run) (WpFn 𝓤 H C Λ code.function) (λ κs. (LL.vals (T.the-type (namedLft 1 0 tt κs)) (T′.the-laws (namedLft 1 0 tt κs)), tt)) (λ κs. (LL.tells (T.the-type (namedLft 1 0 tt κs)) (T′.the-laws (namedLft 1 0 tt κs)), tt))
       (λ κs qs bounds a g are. needs 𝓤 _ _ (λ within. walk 𝓤 H A W mem run (κs .0) (qs .0) (a .0) within C Λ fm known (LL.lawful (T.the-type (namedLft 1 0 tt κs)) (T′.the-laws (namedLft 1 0 tt κs)) 𝓤 H A W .typed (a .0) _ (are .0) .0)))
 
 credential-meets : {M : Type 1} (𝓤 : URA M) (H : Heap 𝓤) (A : Atoms 𝓤) (W : Given 𝓤 H A) (mem : Memory → SProp 𝓤) (run : Routine → Fun 𝓤) (𝓣 : Tables 𝓤 H)
-    → Triple 𝓤 (𝓣 .C #wire·fields·credential-at) (Core 𝓤 H A mem run)
+    → Triple 𝓤 (𝓣 .C #wire·answer·credential-at) (Core 𝓤 H A mem run)
     → Meets 𝓤 H A credential.signature (WpFn 𝓤 H (𝓣 .C) (𝓣 .Λ) code.function) (credential.spec 𝓤 H A mem run)
 credential-meets 𝓤 H A W mem run 𝓣 known-core = walk-meets 𝓤 H A credential.ended stayed W (goes-none 𝓤 H A W 1 B yes (λ κs x f. refl), tt) (credential.clauses 𝓤 H A mem run) (WpFn 𝓤 H (𝓣 .C) (𝓣 .Λ) code.function) (WpFn-mono 𝓤 H (W .laws) 𝓣 code.function)
     (credential-walks 𝓤 H A W mem run (𝓣 .C) (𝓣 .Λ) (fmOf 𝓤 H (W .laws) 𝓣) known-core)
@@ -160,4 +160,4 @@ credential-spec 𝓤 H 𝓜 𝓖 𝓡 =
     entered 𝓤 H (tripleOf 𝓤 H (𝓖 .A) credential.signature (credential.spec 𝓤 H (𝓖 .A) (𝓜 .mem) (𝓡 .run)))
     (tables 𝓤 H 𝓜 𝓡 code.env .C) (tables 𝓤 H 𝓜 𝓡 code.env .Λ) #wire·reader·credential code.function (code.unfolded 𝓤 H 𝓜 𝓡)
     (credential-meets 𝓤 H (𝓖 .A) (givenOf 𝓤 H 𝓜 𝓖) (𝓜 .mem) (𝓡 .run) (tablesOf 𝓤 H 𝓜 (tables 𝓤 H 𝓜 𝓡 code.env))
-    (cited 𝓤 H (Core 𝓤 H (𝓖 .A) (𝓜 .mem) (𝓡 .run)) 𝓜 𝓡 code.env #wire·fields·credential-at core-def.routine code.calls-wire·fields·credential-at (core-thm.met 𝓤 H 𝓜 𝓖 𝓡)))
+    (cited 𝓤 H (Core 𝓤 H (𝓖 .A) (𝓜 .mem) (𝓡 .run)) 𝓜 𝓡 code.env #wire·answer·credential-at core-def.routine code.calls-wire·answer·credential-at (core-thm.met 𝓤 H 𝓜 𝓖 𝓡)))

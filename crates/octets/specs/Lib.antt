@@ -1,0 +1,2 @@
+-- What the crate's contracts say beyond the general definitions.
+pub mod Numbers
