@@ -8,6 +8,7 @@ pub mod Bare
 pub mod Holds
 pub mod Clear
 pub mod Memories
+pub mod Keeps
 pub mod Step
 pub mod Known
 pub mod Shown

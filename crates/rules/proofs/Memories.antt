@@ -3,22 +3,30 @@
 -- leaves room for one more.
 use mathlib.Core.Path.{_≡_, refl, subst}
 use mathlib.Core.Bool.{Bool, false, true}
-use mathlib.Core.List.{[], _∷_, List}
+use mathlib.Core.List.{[], _∷_, List, map}
 use Prim.Native.Nat.{_+_, _<_, _≤_, ℕ}
 use native.Mathlib.Omega.{arith}
 use lib.Dec.{eqb, leb}
-use lib.ListN.{length, length-append}
-use borrow.Author.Tests.{eq-eqb, eqb-true, le-leb}
-use Rattle.lemmas.specs.ListLaws.{some-append-l, some-append-r}
-use Rattle.lemmas.specs.Lists.{some?}
+use lib.ListN.{getD, length, length-append}
+use borrow.Author.Tests.{eq-eqb, eqb-true, le-leb, leb-true}
+use Rattle.lemmas.specs.ListLaws.{
+  every-imp,
+  every-map,
+  every-nth,
+  every-update,
+  length-keep,
+  some-append-l,
+  some-append-r,
+}
+use Rattle.lemmas.specs.Lists.{every, keep, some?, update}
 use Rattle.lemmas.specs.Tests.{and-l, and-r, both, tests}
 use Rattle.rules.specs.declared.Entry.{Entry}
 use Rattle.rules.specs.Drive.{Drive, lives, sameEntry}
-use Rattle.rules.specs.Frame.{entry, Fields}
+use Rattle.rules.specs.Frame.{entry, Fields, memory}
 use Rattle.rules.specs.Operations.{remember}
 use Rattle.rules.specs.Rows.{remembered, row22}
 
-pub remember-length : (x : Fields) (l : List Entry) → length (remember x l) ≡ length l + 1
+remember-length : (x : Fields) (l : List Entry) → length (remember x l) ≡ length l + 1
 unfolding remember
 remember-length x l = length-append l (entry x ∷ [])
 
@@ -33,10 +41,35 @@ unfolding remember
 remember-has t x l h = some-append-r t l (entry x) h
 
 -- a memory of at most 64 entries that row 22 does not refuse has fewer
-pub room-left : (d : Drive) (x : Fields) → row22 d x ≡ false → leb (length (remembered d x)) 64 ≡ true
+room-left : (d : Drive) (x : Fields) → row22 d x ≡ false → leb (length (remembered d x)) 64 ≡ true
     → length (remembered d x) < 64
 unfolding row22
 room-left d x h k = omega tests
+
+-- ---- memories of at most 64 entries
+abbrev pub short : List Entry → Bool
+short l = leb (length l) 64
+
+-- they stay so without their outlived entries
+pub short-kept : (mark : ℕ) (ms : List (List Entry)) → every short ms ≡ true
+    → every short (map (keep (lives mark)) ms) ≡ true
+short-kept mark ms h =
+    every-map short (keep (lives mark)) ms (every-imp short (λ (es : List Entry). short (keep (lives mark) es))
+    (λ es k. le-leb (length (keep (lives mark) es)) 64
+    (omega (arith, length-keep (lives mark) es, leb-true (length es) 64 k))) ms h)
+
+-- and with a grant's entry, which row 22 let in
+pub short-entered : (d : Drive) (x : Fields) → row22 d x ≡ false → every short (d .memories) ≡ true
+    → every short (update (memory x) (remember x) (d .memories)) ≡ true
+unfolding remembered
+short-entered d x r h =
+    let before : List Entry = getD (d .memories) (memory x) [] in
+    every-update short (memory x) (remember x) (d .memories) []
+    (le-leb (length (remember x before)) 64 (omega (
+      arith,
+      remember-length x before,
+      room-left d x r (every-nth short (d .memories) (memory x) [] refl h),
+    ))) h
 
 -- ---- entries
 eqb-self : (n : ℕ) → eqb n n ≡ true

@@ -1,18 +1,15 @@
 -- One call: the gate's two answers, and what holds of drive, medium and ledger before and after.
 use mathlib.Core.Path.{_∙_, _≡_, ap, refl, subst₂, sym}
 use mathlib.Core.Logic.{_⊎_, inl, inr}
-use mathlib.Core.Bool.{Bool, false, true}
-use mathlib.Core.List.{[], List}
+use mathlib.Core.Bool.{false, true}
 use Prim.Native.Nat.{_≤_, ℕ}
 use native.Mathlib.Omega.{arith}
-use lib.Dec.{leb}
-use lib.ListN.{getD, length, length-map}
-use borrow.Author.Tests.{eq-eqb, eqb-false, eqb-true, le-leb, leb-true, ne-eqb}
-use Rattle.lemmas.specs.ListLaws.{every-imp, every-map, every-nth, every-update, length-keep, length-update}
+use lib.ListN.{length, length-map}
+use borrow.Author.Tests.{eq-eqb, eqb-false, eqb-true, le-leb, ne-eqb}
+use Rattle.lemmas.specs.ListLaws.{length-update}
 use Rattle.lemmas.specs.Lists.{every, keep}
 use Rattle.lemmas.specs.Rows.{firstRow}
 use Rattle.lemmas.specs.Tests.{_is_, bool-cases, both}
-use Rattle.rules.specs.declared.Entry.{Entry}
 use Rattle.rules.specs.declared.Object.{Object}
 use Rattle.rules.specs.Demands.{answer, does, State, step}
 use Rattle.rules.specs.Drive.{
@@ -30,19 +27,16 @@ use Rattle.rules.specs.Frame.{Fields, fields, memory, Operation}
 use Rattle.rules.specs.Gate.{Answer, Call, granted, refused}
 use Rattle.rules.specs.Ledger.{clocked, Fed, feed, Ledger, ledgerAfter, tablesOf}
 use Rattle.rules.specs.Operations.{driveAfter, mediumAfter, remember, tablesAfter}
-use Rattle.rules.specs.Rows.{remembered, row1, rows}
+use Rattle.rules.specs.Rows.{row1, rows}
 use Rattle.rules.proofs.Answers.{gate-granted, gate-refused, gate-row, ready-left}
 use Rattle.rules.proofs.Bare.{bare-after}
 use Rattle.rules.proofs.Clear.{clear22, grant}
 use Rattle.rules.proofs.Holds.{Good, good-after, Grant}
-use Rattle.rules.proofs.Memories.{remember-length, room-left}
+use Rattle.rules.proofs.Memories.{short, short-entered, short-kept}
 use Rattle.rules.proofs.Signed.{frame}
 use Rattle.rules.proofs.Sound.{SoundTables}
 
 -- ---- what holds before and after every call
-abbrev pub short : List Entry → Bool
-short l = leb (length l) 64
-
 pub record Inv (M : ℕ) (s : State) (l : Ledger) : Type 0 where
   pub small : M ≤ 16777216
   pub size : s .drive .size ≡ M
@@ -79,15 +73,9 @@ refreshed M s l c v = record {
   size = v .size;
   tables = ap (λ (t : Tables Object). withHighWater (newHighWater (t .highWater) (c .clock)) t) (v .tables);
   good = record { size = v .good .size; four = v .good .four; sound = v .good .sound; bytes = v .good .bytes };
-  five = length-map (s .drive .memories) (keep alive) ∙ v .five;
-  short = every-map short (keep alive) (s .drive .memories)
-      (every-imp short (λ (es : List Entry). short (keep alive es))
-      (λ es k. le-leb (length (keep alive es)) 64
-      (omega (arith, length-keep alive es, leb-true (length es) 64 k))) (s .drive .memories) (v .short));
+  five = length-map (s .drive .memories) (keep (lives (newHighWater (s .drive .tables .highWater) (c .clock)))) ∙ v .five;
+  short = short-kept (newHighWater (s .drive .tables .highWater) (c .clock)) (s .drive .memories) (v .short);
 }
-  where
-    alive : Entry → Bool
-    alive = lives (newHighWater (s .drive .tables .highWater) (c .clock))
 
 -- ---- one call
 module _ (M : ℕ) (s : State) (l : Ledger) (c : Call) (v : Inv M s l) where
@@ -132,7 +120,7 @@ module _ (M : ℕ) (s : State) (l : Ledger) (c : Call) (v : Inv M s l) where
   granted-ledger = ledgerAfter (does c) M (fields (c .frame)) (clocked (c .clock) l)
 
   granted-inv : rowOf s c ≡ 0 → Inv M granted-state granted-ledger
-  unfolding driveAfter remembered
+  unfolding driveAfter
   granted-inv g = record {
     small = w .small;
     size = w .size;
@@ -144,7 +132,7 @@ module _ (M : ℕ) (s : State) (l : Ledger) (c : Call) (v : Inv M s l) where
         (ledgerAfter o M f k)) (sym (w .size)) (sym (w .tables))
         (good-after M (s .medium) k (w .good) o f (the-grant g));
     five = length-update (memory f) (remember f) (d .memories) ∙ w .five;
-    short = every-update short (memory f) (remember f) (d .memories) [] one-more (w .short);
+    short = short-entered d f (clear22 (s .drive) (s .medium) (c .frame) (c .clock) (c .space) g) (w .short);
   }
     where
       f : Fields
@@ -161,18 +149,6 @@ module _ (M : ℕ) (s : State) (l : Ledger) (c : Call) (v : Inv M s l) where
 
       w : Inv M (record { drive = fresh s c; medium = s .medium }) (clocked (c .clock) l)
       w = fresh-inv
-
-      before : List Entry
-      before = getD (d .memories) (memory f) []
-
-      one-more : short (remember f before) ≡ true
-      one-more =
-          le-leb (length (remember f before)) 64 (omega (
-            arith,
-            remember-length f before,
-            room-left d f (clear22 (s .drive) (s .medium) (c .frame) (c .clock) (c .space) g)
-                (every-nth short (d .memories) (memory f) [] refl (w .short)),
-          ))
 
   pub step-granted : rowOf s c ≡ 0 → step s c ≡ granted-state
   unfolding step granted

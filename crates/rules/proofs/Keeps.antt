@@ -1,0 +1,74 @@
+-- The gate leaves a sound drive sound, whatever the drive, the medium and the call (`gate-sound`).
+use mathlib.Core.Path.{_≡_, subst, sym}
+use mathlib.Core.Logic.{_⊎_, inl, inr}
+use mathlib.Core.Bool.{Bool, cond, false, true}
+use mathlib.Core.List.{List}
+use Prim.Native.Nat.{ℕ}
+use lib.Dec.{leb}
+use borrow.Author.Tests.{eqb-false, eqb-true}
+use Rattle.lemmas.specs.Lists.{every}
+use Rattle.lemmas.specs.Rows.{firstRow, Row}
+use Rattle.lemmas.specs.Tests.{_is_, and-l, and-r, bool-cases, both}
+use Rattle.rules.specs.Drive.{Drive, largestMedium, newHighWater, quarter, refresh, sound}
+use Rattle.rules.specs.Frame.{Fields, fields, operationOf}
+use Rattle.rules.specs.Gate.{Answer, Call, gate, granted}
+use Rattle.rules.specs.Operations.{driveAfter}
+use Rattle.rules.specs.Rows.{rows}
+use Rattle.rules.proofs.Answers.{gate-granted, gate-refused}
+use Rattle.rules.proofs.Clear.{clear22, grant}
+use Rattle.rules.proofs.Memories.{short, short-entered, short-kept}
+use Rattle.rules.proofs.Sound.{SoundTables, tables-sound}
+
+-- a sound drive's size, partitions and memories
+small-of : (d : Drive) → sound d ≡ true → leb (d .size) largestMedium ≡ true
+unfolding sound
+small-of d h = search (and-l, and-r)
+
+tables-of : (d : Drive) → sound d ≡ true → SoundTables (quarter (d .size)) (d .tables)
+unfolding sound
+tables-of d h = search (and-l, and-r)
+
+memories-of : (d : Drive) → sound d ≡ true → every short (d .memories) ≡ true
+unfolding sound
+memories-of d h = search (and-l, and-r)
+
+-- the new mark, without the outlived entries
+refresh-sound : (clock : ℕ) (d : Drive) → sound d ≡ true → sound (refresh clock d) ≡ true
+unfolding sound refresh
+refresh-sound clock d h =
+    both (both (small-of d h) (tables-of d h))
+    (short-kept (newHighWater (d .tables .highWater) clock) (d .memories) (memories-of d h))
+
+module _ (d : Drive) (m : List ℕ) (c : Call) (h : sound d ≡ true) where
+  abbrev table : List Row
+  table = rows d m (c .frame) (c .clock) (c .space)
+
+  abbrev x : Fields
+  x = fields (c .frame)
+
+  -- a grant, row 1, any other refusal
+  granted-sound : firstRow table ≡ 0 → sound (driveAfter (operationOf x) x (refresh (c .clock) d)) ≡ true
+  unfolding sound driveAfter
+  granted-sound g =
+      let e : Drive = refresh (c .clock) d in
+      let k : sound e ≡ true = refresh-sound (c .clock) d h in
+      both (both (small-of e k)
+      (tables-sound (operationOf x) (quarter (e .size)) x (e .tables) (tables-of e k)
+      (grant d m (c .frame) (c .clock) (c .space) g (tables-of e k) .creates)))
+      (short-entered e x (clear22 d m (c .frame) (c .clock) (c .space) g) (memories-of e k))
+
+  left-sound : (b : Bool) → sound (cond b d (refresh (c .clock) d)) ≡ true
+  left-sound true = h
+  left-sound false = refresh-sound (c .clock) d h
+
+  pub gate-sound : sound (gate d m c .drive) ≡ true
+  unfolding granted
+  gate-sound = go (bool-cases (firstRow table is 0))
+    where
+      go : (firstRow table is 0 ≡ true) ⊎ (firstRow table is 0 ≡ false) → sound (gate d m c .drive) ≡ true
+      go (inl k) =
+          let e : firstRow table ≡ 0 = eqb-true (firstRow table) 0 k in
+          subst (λ (a : Answer). sound (a .drive) ≡ true) (sym (gate-granted d m c e)) (granted-sound e)
+      go (inr k) =
+          subst (λ (a : Answer). sound (a .drive) ≡ true)
+          (sym (gate-refused d m c (eqb-false (firstRow table) 0 k))) (left-sound (firstRow table is 1))
