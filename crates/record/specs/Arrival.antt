@@ -1,0 +1,40 @@
+-- Document 01, the program `gate`: what is known of a record while its bytes arrive. input: the bytes from the record's
+-- start on, as far as they have arrived.
+use mathlib.Core.Bool.{Bool, true, false, not, _&&_, _||_, cond}
+use mathlib.Core.List.{List}
+use Prim.Native.Nat.{ℕ}
+use lib.Dec.{leb}
+use lib.ListN.{length}
+use Rattle.lemmas.specs.Tests.{_over_, _isnt_}
+use Rattle.lemmas.specs.BigEndian.{numberAt}
+use Rattle.rules.specs.Program.{recordMagic, recordHead, frameLength, callIn, broken}
+use Rattle.record.specs.declared.Arrived.{Arrived}
+use Rattle.record.specs.declared.Arrived.the-variants.{Whole, Broken, Short}
+
+-- "another mark", once its two bytes are there, or "a length over 65,536", once the head is
+abbrev pub wrong : List ℕ → Bool
+wrong input =
+    (leb 2 (length input) && numberAt input 0 2 isnt recordMagic)
+    || (leb recordHead (length input) && frameLength input over 65_536)
+
+-- what there is to know: that the record is whole, that it never will be, its clock and its frame's length
+pub record Told : Type 0 where
+  pub whole : Bool
+  pub hopeless : Bool
+  pub clock : ℕ
+  pub size : ℕ
+
+-- each answer's values
+abbrev pub told : Arrived → Told
+told (Whole clock size) = record { whole = true; hopeless = false; clock = clock; size = size }
+told Broken = record { whole = false; hopeless = true; clock = 0; size = 0 }
+told Short = record { whole = false; hopeless = false; clock = 0; size = 0 }
+
+-- and document 01's, of the bytes that have arrived
+unfoldable pub toldOf : List ℕ → Told
+toldOf input = record {
+  whole = not (broken input);
+  hopeless = wrong input;
+  clock = cond (broken input) 0 (callIn input .clock);
+  size = cond (broken input) 0 (frameLength input);
+}

@@ -1,0 +1,148 @@
+-- Laws of records that arrive: what makes one broken or whole, and what each answer tells. s: the bytes from a record's
+-- start on, as far as they have arrived.
+use mathlib.Core.Path.{_≡_, refl, sym, ap, _∙_}
+use mathlib.Core.Logic.{_⊎_, inl, inr}
+use mathlib.Core.Bool.{Bool, true, false, not, _&&_, _||_, cond, true≢false}
+use mathlib.Core.List.{List}
+use Prim.Native.Nat.{ℕ, _+_, _≤_, _<_}
+use native.Mathlib.Decide.{decLt}
+use native.Mathlib.Omega.{arith}
+use lib.Dec.{leb, eqb}
+use lib.ListN.{length}
+use borrow.Author.Tests.{lt-ltb, le-ltb, le-leb, ltb-false, eqb-true, not-true, not-false}
+use Rattle.lemmas.specs.Tests.{_over_, _under_, _isnt_, and-r, and-false, or-l, or-r, or-cases, or-intro-l, or-intro-r}
+use Rattle.lemmas.specs.Lists.{part}
+use Rattle.lemmas.specs.BigEndian.{numberAt}
+use Rattle.rules.specs.Program.{recordMagic, recordHead, frameLength, callIn, broken}
+use Rattle.record.specs.declared.Arrived.the-variants.{Whole, Broken, Short}
+use Rattle.record.specs.Arrival.{wrong, Told, told, toldOf}
+
+-- the four tests of a broken record, and those of a wrong one
+abbrev few : List ℕ → Bool
+few s = length s under recordHead
+
+abbrev other : List ℕ → Bool
+other s = numberAt s 0 2 isnt recordMagic
+
+abbrev long : List ℕ → Bool
+long s = frameLength s over 65_536
+
+abbrev lacks : List ℕ → Bool
+lacks s = length s under recordHead + frameLength s
+
+-- none of two tests passes
+pub neither : {a b : Bool} → a ≡ false → b ≡ false → (a || b) ≡ false
+neither {a} {b} e f = rw e f
+
+-- ---- a test of a number that is looked at only where it is there
+pub there : (b : Bool) (t : ℕ → Bool) (x : ℕ) → (b && t (cond (not b) 0 x)) ≡ (b && t x)
+there true t x = refl
+there false t x = refl
+
+-- ---- what makes a record broken
+pub wrong-broken : (s : List ℕ) → wrong s ≡ true → broken s ≡ true
+unfolding broken
+wrong-broken s h = go (or-cases (leb 2 (length s) && other s) (leb recordHead (length s) && long s) h)
+  where
+    go : ((leb 2 (length s) && other s) ≡ true) ⊎ ((leb recordHead (length s) && long s) ≡ true)
+        → (few s || other s || long s || lacks s) ≡ true
+    go (inl e) =
+        or-intro-l (few s || other s || long s) (lacks s)
+        (or-intro-l (few s || other s) (long s)
+        (or-intro-r (few s) (other s) (and-r (leb 2 (length s)) (other s) e)))
+    go (inr e) =
+        or-intro-l (few s || other s || long s) (lacks s)
+        (or-intro-r (few s || other s) (long s) (and-r (leb recordHead (length s)) (long s) e))
+
+pub head-short : (s : List ℕ) → length s < recordHead → broken s ≡ true
+unfolding broken
+head-short s h =
+    or-intro-l (few s || other s || long s) (lacks s)
+    (or-intro-l (few s || other s) (long s) (or-intro-l (few s) (other s) (lt-ltb (length s) recordHead h)))
+
+pub frame-short : (s : List ℕ) → length s < recordHead + frameLength s → broken s ≡ true
+unfolding broken
+frame-short s h = or-intro-r (few s || other s || long s) (lacks s) (lt-ltb (length s) (recordHead + frameLength s) h)
+
+-- and what makes it whole
+pub not-wrong : (s : List ℕ) → wrong s ≡ false → recordHead ≤ length s → (other s ≡ false) × (long s ≡ false)
+not-wrong s w h = (
+  and-false (leb 2 (length s)) (other s) (le-leb 2 (length s) (omega arith))
+      (or-l (leb 2 (length s) && other s) (leb recordHead (length s) && long s) w),
+  and-false (leb recordHead (length s)) (long s) (le-leb recordHead (length s) h)
+      (or-r (leb 2 (length s) && other s) (leb recordHead (length s) && long s) w),
+)
+
+pub all-there : (s : List ℕ) → wrong s ≡ false → recordHead ≤ length s → recordHead + frameLength s ≤ length s
+    → broken s ≡ false
+unfolding broken
+all-there s w h k =
+    let n = not-wrong s w h in
+    neither (neither (neither (le-ltb (length s) recordHead h) (n .0)) (n .1))
+    (le-ltb (length s) (recordHead + frameLength s) k)
+
+-- ---- what is told of it
+pub told-broken : (s : List ℕ) (b : Bool) → broken s ≡ true → wrong s ≡ b
+    → toldOf s ≡ record { whole = false; hopeless = b; clock = 0; size = 0 }
+unfolding toldOf
+told-broken s b e w = rw (e, w) refl
+
+pub told-whole : (s : List ℕ) → broken s ≡ false → wrong s ≡ false
+    → toldOf s ≡ record { whole = true; hopeless = false; clock = callIn s .clock; size = frameLength s }
+unfolding toldOf
+told-whole s e w = rw (e, w) refl
+
+-- ---- what each answer tells
+-- a whole record: its clock and its frame are document 01's, and the frame lies within the bytes that are there
+pub record IsWhole (s : List ℕ) (clock size : ℕ) : Type 0 where
+  pub whole : broken s ≡ false
+  pub mark : numberAt s 0 2 ≡ recordMagic
+  pub reading : clock ≡ callIn s .clock
+  pub counted : size ≡ frameLength s
+  pub frame : part s recordHead size ≡ callIn s .frame
+  pub most : size ≤ 65_536
+  pub fits : recordHead + size ≤ length s
+
+pub whole-facts : (s : List ℕ) → broken s ≡ false → IsWhole s (callIn s .clock) (frameLength s)
+unfolding broken
+whole-facts s e = record {
+  whole = e;
+  mark = eqb-true (numberAt s 0 2) recordMagic (not-false (eqb (numberAt s 0 2) recordMagic)
+      (or-r (few s) (other s)
+      (or-l (few s || other s) (long s) (or-l (few s || other s || long s) (lacks s) e))));
+  reading = refl;
+  counted = refl;
+  frame = refl;
+  most = ltb-false 65_536 (frameLength s)
+      (or-r (few s || other s) (long s) (or-l (few s || other s || long s) (lacks s) e));
+  fits = ltb-false (length s) (recordHead + frameLength s) (or-r (few s || other s || long s) (lacks s) e);
+}
+
+pub whole-told : (s : List ℕ) (clock size : ℕ) → told (Whole clock size) ≡ toldOf s → IsWhole s clock size
+unfolding toldOf
+whole-told s clock size e =
+    let b : broken s ≡ false = not-true (broken s) (sym (ap Told.whole e)) in
+    let ec : clock ≡ callIn s .clock = ap Told.clock e ∙ (rw b) in
+    let es : size ≡ frameLength s = ap Told.size e ∙ (rw b) in
+    rw (ec, es) (whole-facts s b)
+
+pub broken-told : (s : List ℕ) → told Broken ≡ toldOf s → wrong s ≡ true
+unfolding toldOf
+broken-told s e = sym (ap Told.hopeless e)
+
+-- a record of which more must be read is shorter than the longest record
+pub short-told : (s : List ℕ) → told Short ≡ toldOf s
+    → (broken s ≡ true) × (wrong s ≡ false) × (length s < recordHead + 65_536)
+unfolding toldOf
+short-told s e =
+    let b : broken s ≡ true = not-false (broken s) (sym (ap Told.whole e)) in
+    let w : wrong s ≡ false = sym (ap Told.hopeless e) in
+    (b, w, go b w (decLt (length s) recordHead) (decLt (length s) (recordHead + frameLength s)))
+  where
+    go : broken s ≡ true → wrong s ≡ false → Dec (length s < recordHead) → Dec (length s < recordHead + frameLength s)
+        → length s < recordHead + 65_536
+    go b w (yes h) l = omega arith
+    go b w (no h) (yes l) =
+        let n = not-wrong s w (omega arith) in
+        omega (arith, l, ltb-false 65_536 (frameLength s) (n .1))
+    go b w (no h) (no l) = absurd (true≢false (sym b ∙ all-there s w (omega arith) (omega arith)))
