@@ -1,8 +1,15 @@
 // The drive of document 01: its record, format and the gate.
 ghost use mathlib.Core.Path.{_≡_};
+ghost use Rattle.rules.specs.Gate.{Call};
+ghost use Rattle.drive.specs.Met.{FormatMet, GateMet};
 use keyring::Keys;
 use memory::Memory;
 use partition::Partition;
+use wire::Parsed;
+
+mod fresh;
+mod grant;
+mod serve;
 
 // Plain data, passed by value and returned. Nothing is asked of a record passed in: row 1 refuses one that is not sound.
 // `size` is the medium's length M, `highwater` document 01's mark; memories 0 to 3 are the partitions', 4 that of
@@ -26,4 +33,20 @@ pub struct Answer {
 pub struct Formatted {
     pub row: u32,
     pub drive: Drive,
+}
+
+// What a frame can see of a drive: M, the mark, the keys, its own partition and its own replay memory.
+struct Share {
+    size: usize,
+    highwater: u64,
+    keys: Keys,
+    partition: Partition,
+    memory: Memory,
+}
+
+// Row and reply length, and the share after the call.
+struct Outcome {
+    row: u32,
+    length: usize,
+    share: Share,
 }

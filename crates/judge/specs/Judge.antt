@@ -111,26 +111,26 @@ pub rules-rows : (d : Drive) (x : Fields) (space : List ℕ) → driveRows d x s
     ≡ line 8 (row8 (d .tables) x) ∷ line 9 (row9 (d .tables) x) ∷ judgeRows (d .tables .highWater) (home (d .tables) x)
     (remembered d x) (x .cred) (x .req) (placeOf (quarter (d .size)) (d .tables) x) (length space)
 unfolding
-  driveRows
-  judgeRows
-  row10
-  row11
-  row12
-  row13
-  row14
-  row15
-  row16
-  row17
-  row18
-  row19
-  row20
-  row21
-  row22
-  named
-  objectOf
-  present
-  entry
-  entryOf
+    driveRows
+    judgeRows
+    row10
+    row11
+    row12
+    row13
+    row14
+    row15
+    row16
+    row17
+    row18
+    row19
+    row20
+    row21
+    row22
+    named
+    objectOf
+    present
+    entry
+    entryOf
 rules-rows d x space = refl
 
 -- a place that is looked for only where one is needed judges row 20 the same

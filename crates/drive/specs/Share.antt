@@ -1,0 +1,65 @@
+-- What a frame can see and change of a drive: its own partition, its own memory and the keys. A drive that has nothing
+-- else answers it alike. x: the frame's fields. s: the share. m: the medium.
+use mathlib.Core.Path.{_≡_}
+use mathlib.Core.Bool.{true, cond}
+use mathlib.Core.List.{List}
+use Prim.Native.Nat.{ℕ, _≤_}
+use lib.ListN.{length, replicate}
+use Rattle.lemmas.specs.Tests.{_is_}
+use Rattle.lemmas.specs.Lists.{keep}
+use Rattle.lemmas.specs.Rows.{firstRow}
+use Rattle.rules.specs.declared.Credential.{Credential}
+use Rattle.rules.specs.Frame.{Fields, fields}
+use Rattle.rules.specs.Drive as rules
+use Rattle.rules.specs.Drive.{lives, mostObjects, mostEntries, sound}
+use Rattle.rules.specs.Operations.{home}
+use Rattle.rules.specs.Rows.{driveRows, remembered}
+use Rattle.rules.specs.Gate as rules·gate
+use Rattle.rules.specs.Gate.{refused, granted}
+use Rattle.wire.specs.declared.ParsedRequest.{ParsedRequest}
+use Rattle.wire.specs.declared.Parsed.the-variants.{Fields as Parsed·Fields}
+use Rattle.wire.specs.Parse.{told, parseOf}
+use Rattle.keyring.specs.View.{keysOf}
+use Rattle.memory.specs.Memory.{entriesOf}
+use Rattle.partition.specs.Partition.{partitionOf}
+use Rattle.drive.specs.declared.Share.{Share}
+use Rattle.drive.specs.declared.Outcome.{Outcome}
+
+-- a drive of which every partition and every memory is the share's
+unfoldable pub alone : Share → rules.Drive
+alone s = record {
+  size = s .size;
+  tables = record {
+    highWater = s .highwater;
+    keys = keysOf (s .keys);
+    partitions = replicate 4 (partitionOf (s .partition));
+  };
+  memories = replicate 5 (entriesOf (s .memory));
+}
+
+-- the answer to a frame that none of rows 1 to 7 refuses, of a drive with its new mark and no outlived entry
+unfoldable pub admitted : rules.Drive → List ℕ → Fields → List ℕ → rules·gate.Answer
+admitted d m x space =
+    let row = firstRow (driveRows d x space) in
+    cond (row is 0) (granted d m x space) (refused row d m space)
+
+-- a share that is sound and has no outlived entry, with its medium and a parsed frame
+pub record Ready (s : Share) (m f : List ℕ) (c : Credential) (q : ParsedRequest) : Type 0 where
+  pub parsed : told (Parsed·Fields c q) ≡ parseOf f
+  pub size : length m ≡ s .size
+  pub sound : sound (alone s) ≡ true
+  pub fresh : keep (lives (s .highwater)) (entriesOf (s .memory)) ≡ entriesOf (s .memory)
+  pub few : s .partition .objects .count ≤ mostObjects
+  pub short : s .memory .count ≤ mostEntries
+
+-- an outcome is the rules' answer a, as far as the frame's share goes
+pub record Given (a : rules·gate.Answer) (x : Fields) (r : Outcome) (after replied : List ℕ) : Type 0 where
+  pub row : r .row ≡ a .row
+  pub length : r .length ≡ a .length
+  pub medium : after ≡ a .medium
+  pub space : replied ≡ a .space
+  pub keys : keysOf (r .share .keys) ≡ a .drive .tables .keys
+  pub partition : partitionOf (r .share .partition) ≡ home (a .drive .tables) x
+  pub memory : entriesOf (r .share .memory) ≡ remembered (a .drive) x
+  pub few : r .share .partition .objects .count ≤ mostObjects
+  pub short : r .share .memory .count ≤ mostEntries
