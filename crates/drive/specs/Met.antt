@@ -17,6 +17,10 @@ pub record FormatMet (m : List ℕ) (F : ℕ) (master key : List ℕ) (r : Forma
   pub drive : view (r .drive) ≡ rules.format m F master key .drive
   pub medium : after ≡ rules.format m F master key .medium
 
+-- a call of the gate: a frame, a clock reading and a reply space
+abbrev pub callOf : List ℕ → ℕ → List ℕ → Call
+callOf f clock s = record { frame = f; clock = clock; space = s }
+
 -- the gate, of a drive, a medium m and a call (frame, clock reading, reply space): row, reply length, drive, medium and
 -- reply space, refusals too
 pub record GateMet (d : Drive) (m : List ℕ) (c : Call) (r : Answer) (after replied : List ℕ) : Type 0 where

@@ -1,6 +1,7 @@
 // A partition (document 01, "Drive state"): its version, the last version given, its objects; the object that a frame
 // names, and the partition after operations 4 to 6. Everything is total.
 ghost use mathlib.Core.Path.{_≡_};
+ghost use mathlib.Core.Bool.{true};
 ghost use Prim.Native.Nat.{_≤_};
 ghost use Rattle.rules.specs.Drive.{soundPartition, mostObjects};
 ghost use Rattle.partition.specs.Partition.{partitionOf, viewed, targetOf, raisedTo, createdTo, deletedFrom, partitionAfter};
@@ -24,7 +25,7 @@ pub struct Target {
 
 // Whether a partition is sound; a count over the array's length is not.
 pub fn sound_partition(p: Partition, quarter: u32) -> bool
-    ensures { λ r. ⌜ r ≡ soundPartition quarter (viewed p) ⌝ }
+    ensures { λ r. ⌜ (r ≡ soundPartition quarter (viewed p)) × (r ≡ true → p .objects .count ≤ mostObjects) ⌝ }
 {
     let os = p.objects;
     (os.count <= 16) & state::sound_objects(os, quarter, p.last)

@@ -1,0 +1,81 @@
+-- A grant's parts: where its operation works, and what is known when it is made. x: the frame's fields.
+use mathlib.Core.Path.{_≡_}
+use mathlib.Core.Bool.{true, cond}
+use mathlib.Core.Option.{Option, none, Option·getD}
+use mathlib.Core.List.{List, _++_}
+use Prim.Native.Nat.{ℕ, _*_, _+_, _<_, _≤_}
+use lib.ListN.{length}
+use Rattle.lemmas.specs.Tests.{_is_, _isnt_}
+use Rattle.lemmas.specs.Lists.{find}
+use Rattle.digest.specs.declared.mac.Mac.{Mac}
+use Rattle.digest.specs.Stream.{Keyed}
+use Rattle.rules.specs.declared.Credential.{Credential}
+use Rattle.rules.specs.declared.Object.{Object}
+use Rattle.rules.specs.Frame.{Fields, fields, operationOf, write, create, memory}
+use Rattle.rules.specs.Drive as rules
+use Rattle.rules.specs.Drive.{quarter, largestMedium, mostObjects, mostEntries}
+use Rattle.rules.specs.Operations.{
+  home,
+  objectOf,
+  extentStart,
+  startOf,
+  placeOf,
+  noObject,
+  signing,
+  credentialKey,
+  replyLength,
+}
+use Rattle.rules.specs.Rows.{moves, gives, remembered}
+use Rattle.wire.specs.declared.ParsedRequest.{ParsedRequest}
+use Rattle.wire.specs.declared.Parsed.the-variants.{Fields as Parsed·Fields}
+use Rattle.wire.specs.Parse.{told, parseOf}
+use Rattle.effect.specs.declared.Site.{Site}
+use Rattle.effect.specs.Effect.{nextOf}
+use Rattle.judge.specs.Judge.{versionOf}
+use Rattle.drive.specs.declared.Share.{Share}
+use Rattle.drive.specs.Share.{alone}
+
+-- the object that a number names in a partition, all zeros where there is none
+abbrev pub objectIn : rules.Partition Object → ℕ → Object
+objectIn p n = Option·getD (find Object.number n (p .objects)) noObject
+
+-- where a grant works, of a medium of so many bytes
+unfoldable pub siteOf : ℕ → rules.Partition Object → Credential → Option ℕ → Site
+siteOf size p c place = record {
+  base = c .partition * quarter size;
+  start = objectIn p (c .object) .start;
+  size = objectIn p (c .object) .size;
+  place = Option·getD place 0;
+  told = cond (c .object is 0) (quarter size) (objectIn p (c .object) .size);
+  version = versionOf p (c .object);
+  next = nextOf (p .last);
+}
+
+-- what holds of a frame that no row refuses, so that everything fits
+pub record Room (d : rules.Drive) (m : List ℕ) (x : Fields) (space : List ℕ) : Type 0 where
+  pub small : d .size ≤ largestMedium
+  pub four : x .cred .partition < 4
+  pub extent : moves (x .req) ≡ true
+      → extentStart (quarter (d .size)) (d .tables) x + objectOf (d .tables) x .size ≤ length m
+  pub inside : moves (x .req) ≡ true → x .req .A + x .req .B ≤ objectOf (d .tables) x .size
+  pub payload : operationOf x ≡ write → length (x .payload) ≡ x .req .B
+  pub cleared : operationOf x ≡ create
+      → x .cred .partition * quarter (d .size) + startOf (quarter (d .size)) (d .tables) x + x .req .B ≤ length m
+  pub objects : operationOf x ≡ create → length (home (d .tables) x .objects) < mostObjects
+  pub last : gives (x .req) ≡ true → home (d .tables) x .last ≡ 4_294_967_295 → ⊥
+  pub entries : length (remembered d x) < mostEntries
+  pub reply : replyLength (x .req) ≤ length space
+
+-- a grant's beginning: the parsed frame, room for everything, the keyed hash that took credential and request, the key
+-- in the slot, the place of a new extent
+pub record Granting (s : Share) (seen : Mac) (k m f space : List ℕ) (c : Credential) (q : ParsedRequest)
+    (start : Option ℕ) : Type 0 where
+  pub parsed : told (Parsed·Fields c q) ≡ parseOf f
+  pub long : length f ≡ 96 + fields f .req .n
+  pub room : Room (alone s) m (fields f) space
+  pub keyed : Keyed seen (credentialKey (alone s .tables .keys) (fields f)) (fields f .credential ++ fields f .request)
+  pub key : k ≡ signing (alone s .tables .keys) (fields f)
+  pub place : start
+      ≡ cond (fields f .req .operation isnt 5) none (placeOf (quarter (s .size)) (alone s .tables) (fields f))
+  pub few : s .partition .objects .count ≤ mostObjects
+  pub short : s .memory .count ≤ mostEntries
