@@ -20,20 +20,20 @@ use Rattle.rules.proofs.Memories.{short, short-entered, short-kept}
 use Rattle.rules.proofs.Sound.{SoundTables, tables-sound}
 
 -- a sound drive's size, partitions and memories
-small-of : (d : Drive) → sound d ≡ true → leb (d .size) largestMedium ≡ true
+pub small-of : (d : Drive) → sound d ≡ true → leb (d .size) largestMedium ≡ true
 unfolding sound
 small-of d h = search (and-l, and-r)
 
-tables-of : (d : Drive) → sound d ≡ true → SoundTables (quarter (d .size)) (d .tables)
+pub tables-of : (d : Drive) → sound d ≡ true → SoundTables (quarter (d .size)) (d .tables)
 unfolding sound
 tables-of d h = search (and-l, and-r)
 
-memories-of : (d : Drive) → sound d ≡ true → every short (d .memories) ≡ true
+pub memories-of : (d : Drive) → sound d ≡ true → every short (d .memories) ≡ true
 unfolding sound
 memories-of d h = search (and-l, and-r)
 
 -- the new mark, without the outlived entries
-refresh-sound : (clock : ℕ) (d : Drive) → sound d ≡ true → sound (refresh clock d) ≡ true
+pub refresh-sound : (clock : ℕ) (d : Drive) → sound d ≡ true → sound (refresh clock d) ≡ true
 unfolding sound refresh
 refresh-sound clock d h =
     both (both (small-of d h) (tables-of d h))

@@ -41,7 +41,7 @@ unfolding remember
 remember-has t x l h = some-append-r t l (entry x) h
 
 -- a memory of at most 64 entries that row 22 does not refuse has fewer
-room-left : (d : Drive) (x : Fields) → row22 d x ≡ false → leb (length (remembered d x)) 64 ≡ true
+pub room-left : (d : Drive) (x : Fields) → row22 d x ≡ false → leb (length (remembered d x)) 64 ≡ true
     → length (remembered d x) < 64
 unfolding row22
 room-left d x h k = omega tests

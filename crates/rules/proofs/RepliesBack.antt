@@ -74,7 +74,7 @@ module _ (d : Drive) (m f : List ℕ) (clock : ℕ) (space : List ℕ) (g : firs
   unfolding sound refresh
   sound-tables = search (and-l, and-r, is-sound d m f clock space g)
 
-  sound-named : moves (x .req) ≡ true → SoundObject q (partitionAt t (x .cred .partition) .last) (objectOf t x)
+  pub sound-named : moves (x .req) ≡ true → SoundObject q (partitionAt t (x .cred .partition) .last) (objectOf t x)
   unfolding objectOf named
   sound-named h =
       let p : Partition Object = partitionAt t (x .cred .partition) in

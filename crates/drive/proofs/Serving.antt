@@ -1,0 +1,252 @@
+-- What the code of `serve` and `grant` finds and does, in the rules' words: rows 8, 9 and the judged ones, and the parts of
+-- a grant. All of one share: its partition is the frame's, its memory the frame's memory.
+use mathlib.Core.Path.{_≡_, refl, sym, ap, subst, _∙_}
+use mathlib.Core.Bool.{Bool, true, false, not, cond, true≢false}
+use mathlib.Core.Option.{Option, none, some, Option·getD}
+use mathlib.Core.List.{List, [], _∷_, _++_}
+use Prim.Native.Nat.{ℕ, zero, suc, _+_, _≤_, _<_, max}
+use native.Mathlib.Omega.{arith}
+use lib.ListN.{length, getD, replicate, getD-replicate}
+use borrow.Author.Tests.{eq-eqb, ne-eqb, leb-true}
+use Rattle.lemmas.specs.Tests.{_is_, _isnt_, _under_}
+use Rattle.lemmas.specs.Lists.{same, missing, keep}
+use Rattle.lemmas.specs.Rows.{Row, line, firstRow, row-here, row-next}
+use Rattle.digest.specs.Hmac.{hmac}
+use Rattle.digest.specs.declared.mac.Mac.{Mac}
+use Rattle.rules.specs.declared.Credential.{Credential}
+use Rattle.rules.specs.declared.Request.{Request}
+use Rattle.rules.specs.declared.Entry.{Entry}
+use Rattle.rules.specs.declared.Object.{Object}
+use Rattle.rules.specs.Frame.{Fields, fields, covered, operationOf, memory, entry}
+use Rattle.rules.specs.Drive as rules
+use Rattle.rules.specs.Drive.{quarter, largestMedium, lives, refresh, sound, mostObjects, mostEntries, unused}
+use Rattle.rules.specs.Operations.{home, keyIn, signing, credentialKey, digestOf, placeOf, replyLength, mediumAfter, reply, driveAfter}
+use Rattle.rules.specs.Rows.{row1, row8, row9, driveRows, remembered}
+use Rattle.rules.specs.Gate.{Answer, granted, refused}
+use Rattle.rules.proofs.Keeps.{small-of}
+use Rattle.wire.specs.declared.ParsedRequest.{ParsedRequest}
+use Rattle.wire.specs.declared.Parsed.the-variants.{Fields as Parsed·Fields}
+use Rattle.wire.specs.Parse.{requestTold, frameRow, told, parseOf}
+use Rattle.wire.specs.ParseLaws.{fields-told}
+use Rattle.keyring.specs.declared.Key.{Key}
+use Rattle.keyring.specs.View.{keyOf, keysOf}
+use Rattle.memory.specs.Memory.{entriesOf}
+use Rattle.effect.specs.declared.Site.{Site}
+use Rattle.effect.specs.Effect.{mediumPut, replyPut, keysPut}
+use Rattle.judge.specs.Judge.{entryOf, judgeRows, placeFor, rules-rows, place-when}
+use Rattle.partition.specs.Partition.{partitionOf, partitionAfter}
+use Rattle.drive.specs.declared.Share.{Share}
+use Rattle.drive.specs.declared.Outcome.{Outcome}
+use Rattle.drive.specs.Share.{alone, admitted, Ready, Given}
+use Rattle.drive.specs.Site.{siteOf, Room, Granting}
+use Rattle.drive.proofs.Frames.{in-four, in-five, long}
+use Rattle.drive.proofs.Rows.{room}
+use Rattle.drive.proofs.Grants.{medium-is, reply-is, keys-is, partition-is, memory-is}
+
+-- ---- a share's drive: its partition and memory are the frame's
+module _ (s : Share) (f : List ℕ) (z : frameRow f ≡ 0) where
+  abbrev x : Fields
+  x = fields f
+
+  pub alone-home : home (alone s .tables) x ≡ partitionOf (s .partition)
+  unfolding alone
+  alone-home = getD-replicate 4 (x .cred .partition) (partitionOf (s .partition)) (unused 0) (in-four f z)
+
+  pub alone-memory : remembered (alone s) x ≡ entriesOf (s .memory)
+  unfolding alone remembered
+  alone-memory = getD-replicate 5 (memory x) (entriesOf (s .memory)) [] (in-five f z)
+
+-- it has its new mark, and no outlived entry
+pub alone-fresh : (s : Share) → keep (lives (s .highwater)) (entriesOf (s .memory)) ≡ entriesOf (s .memory)
+    → refresh 0 (alone s) ≡ alone s
+unfolding refresh alone
+alone-fresh s h =
+    let e : max (s .highwater) 0 ≡ s .highwater = omega arith in
+    rw (e, h) refl
+
+-- ---- rows 8 and on
+module _ (s : Share) (m f space : List ℕ) (c : Credential) (q : ParsedRequest) (w : Ready s m f c q) where
+  abbrev y : Fields
+  y = fields f
+
+  abbrev keys : rules.Keys
+  keys = alone s .tables .keys
+
+  pub zero-row : frameRow f ≡ 0
+  zero-row = fields-told f c q (w .parsed) .0 .0
+
+  pub c-is : c ≡ y .cred
+  c-is = fields-told f c q (w .parsed) .0 .1
+
+  pub q-is : requestTold q ≡ y .req
+  q-is = fields-told f c q (w .parsed) .1
+
+  abbrev table : List Row
+  table = driveRows (alone s) y space
+
+  abbrev judged : List Row
+  judged = judgeRows (s .highwater) (home (alone s .tables) y) (remembered (alone s) y) (y .cred) (y .req)
+      (placeOf (quarter (s .size)) (alone s .tables) y) (length space)
+
+  table-is : table ≡ line 8 (row8 (alone s .tables) y) ∷ line 9 (row9 (alone s .tables) y) ∷ judged
+  unfolding alone
+  table-is = rules-rows (alone s) y space
+
+  -- the key that the code found
+  module _ (key : Key) (found : keyOf key ≡ keyIn (keysOf (s .keys)) (c .partition) (c .slot)) where
+    found-is : keyIn keys (y .cred .partition) (y .cred .slot) ≡ keyOf key
+    unfolding alone
+    found-is = ap (λ (k : Credential). keyIn (keysOf (s .keys)) (k .partition) (k .slot)) (sym c-is) ∙ sym found
+
+    pub eight : key .set ≡ false → firstRow table ≡ 8
+    unfolding row8 missing
+    eight h =
+        let r : row8 (alone s .tables) y ≡ true = rw (found-is, h) refl in
+        ap firstRow table-is ∙ row-here (line 8 (row8 (alone s .tables) y)) (line 9 (row9 (alone s .tables) y) ∷ judged) r
+
+    module _ (set : key .set ≡ true) where
+      pub signing-is : signing keys y ≡ key .bytes
+      unfolding signing
+      signing-is = rw (found-is, set) refl
+
+      pub credential-key : hmac (key .bytes) (y .credential) ≡ credentialKey keys y
+      unfolding credentialKey
+      credential-key = ap (λ (k : List ℕ). hmac k (y .credential)) (sym signing-is)
+
+      past8 : row8 (alone s .tables) y ≡ false
+      unfolding row8 missing
+      past8 = rw (found-is, set) refl
+
+      from9 : firstRow table ≡ firstRow (line 9 (row9 (alone s .tables) y) ∷ judged)
+      from9 = ap firstRow table-is
+          ∙ row-next (line 8 (row8 (alone s .tables) y)) (line 9 (row9 (alone s .tables) y) ∷ judged) past8
+
+      -- the digest compared
+      module _ (signed : Bool)
+          (compared : signed ≡ same (y .digest) (hmac (credentialKey keys y) (covered (q .level) (y .credential) (y .request) (y .payload))))
+          where
+        row9-is : row9 (alone s .tables) y ≡ not signed
+        unfolding row9 digestOf requestTold
+        row9-is = ap not (ap (λ (l : ℕ). same (y .digest) (hmac (credentialKey keys y)
+            (covered l (y .credential) (y .request) (y .payload)))) (sym (ap Request.level q-is)) ∙ sym compared)
+
+        pub nine : signed ≡ false → firstRow table ≡ 9
+        nine h = from9 ∙ row-here (line 9 (row9 (alone s .tables) y)) judged (row9-is ∙ ap not h)
+
+        over-share : firstRow (judgeRows (s .highwater) (home (alone s .tables) y) (remembered (alone s) y) (y .cred)
+            (y .req) (cond (y .req .operation isnt 5) none (placeOf (quarter (s .size)) (alone s .tables) y)) (length space))
+            ≡ firstRow (judgeRows (s .highwater) (partitionOf (s .partition)) (entriesOf (s .memory)) c
+            (requestTold q) (placeFor (quarter (s .size)) (s .partition .objects) (requestTold q)) (length space))
+        unfolding placeOf partitionOf
+        over-share = rw (alone-home s f zero-row, alone-memory s f zero-row, c-is, q-is) refl
+
+        pub from10 : signed ≡ true
+            → firstRow table ≡ firstRow (judgeRows (s .highwater) (partitionOf (s .partition)) (entriesOf (s .memory)) c
+            (requestTold q) (placeFor (quarter (s .size)) (s .partition .objects) (requestTold q)) (length space))
+        from10 h =
+            from9 ∙ row-next (line 9 (row9 (alone s .tables) y)) judged (row9-is ∙ ap not h)
+            ∙ ap firstRow (sym (place-when (s .highwater) (home (alone s .tables) y) (remembered (alone s) y) (y .cred)
+            (y .req) (placeOf (quarter (s .size)) (alone s .tables) y) (length space)))
+            ∙ over-share
+
+  -- ---- a refusal
+  pub refusal-given : (r : Outcome) (n : ℕ) → firstRow table ≡ n → (n ≡ 0 → ⊥) → r .row ≡ n → r .length ≡ 0
+      → r .share ≡ s → Given (admitted (alone s) m y space) y r m space
+  unfolding admitted alone
+  refusal-given r n t z e l k = subst (λ (a : Answer). Given a y r m space) (sym answer) (record {
+    row = e;
+    length = l;
+    medium = refl;
+    space = refl;
+    keys = ap (λ (h : Share). keysOf (h .keys)) k;
+    partition = ap (λ (h : Share). partitionOf (h .partition)) k ∙ sym (alone-home s f zero-row);
+    memory = ap (λ (h : Share). entriesOf (h .memory)) k ∙ sym (alone-memory s f zero-row);
+    few = subst (λ (h : Share). h .partition .objects .count ≤ mostObjects) (sym k) (w .few);
+    short = subst (λ (h : Share). h .memory .count ≤ mostEntries) (sym k) (w .short);
+  })
+    where
+      answer : admitted (alone s) m y space ≡ refused n (alone s) m space
+      answer = rw (t, ne-eqb n 0 z) refl
+
+  -- ---- no row applies: the grant
+  pub granted-given : (r : Outcome) (after replied : List ℕ) → firstRow table ≡ 0
+      → Given (granted (alone s) m y space) y r after replied → Given (admitted (alone s) m y space) y r after replied
+  unfolding admitted
+  granted-given r after replied t g = subst (λ (a : Answer). Given a y r after replied) (sym answer) g
+    where
+      answer : admitted (alone s) m y space ≡ granted (alone s) m y space
+      answer = rw t refl
+
+  ready-row : row1 (alone s) m ≡ false
+  unfolding row1 alone
+  ready-row = rw (w .sound, eq-eqb (length m) (s .size) (w .size)) refl
+
+  pub room-of : firstRow table ≡ 0 → Room (alone s) m y space
+  room-of g = room (alone s) m f space (alone-fresh s (w .fresh)) ready-row zero-row g
+
+  pub small-size : s .size ≤ largestMedium
+  unfolding alone
+  small-size = leb-true (s .size) largestMedium (small-of (alone s) (w .sound))
+
+-- ---- the parts of a grant
+module _ (s : Share) (seen : Mac) (k m f space : List ℕ) (c : Credential) (q : ParsedRequest) (start : Option ℕ)
+    (g : Granting s seen k m f space c q start) where
+  abbrev v : Fields
+  v = fields f
+
+  abbrev d : rules.Drive
+  d = alone s
+
+  zero-g : frameRow f ≡ 0
+  zero-g = fields-told f c q (g .parsed) .0 .0
+
+  c-g : c ≡ v .cred
+  c-g = fields-told f c q (g .parsed) .0 .1
+
+  q-g : requestTold q ≡ v .req
+  q-g = fields-told f c q (g .parsed) .1
+
+  abbrev here : Site
+  here = siteOf (s .size) (partitionOf (s .partition)) c start
+
+  site-g : here ≡ siteOf (d .size) (home (d .tables) v) (v .cred) start
+  unfolding alone
+  site-g = rw (alone-home s f zero-g, c-g) refl
+
+  placed-g : start ≡ cond (v .req .operation isnt 5) none (placeOf (quarter (d .size)) (d .tables) v)
+  unfolding alone
+  placed-g = g .place
+
+  pub medium-g : mediumPut (q .operation) here (v .payload) m ≡ granted d m v space .medium
+  unfolding granted
+  medium-g = ap (λ (h : Site). mediumPut (q .operation) h (v .payload) m) site-g
+      ∙ medium-is d m f space q q-g (g .room) start placed-g
+
+  pub space-g : replyPut (credentialKey (d .tables .keys) v) (v .credential ++ v .request) (requestTold q) (q .operation)
+      here m space ≡ granted d m v space .space
+  unfolding granted
+  space-g = ap (λ (h : Site). replyPut (credentialKey (d .tables .keys) v) (v .credential ++ v .request) (requestTold q)
+      (q .operation) h m space) site-g
+      ∙ reply-is d m f space q q-g (g .room) start placed-g
+
+  pub length-g : replyLength (requestTold q) ≡ granted d m v space .length
+  unfolding granted
+  length-g = ap replyLength q-g
+
+  pub keys-g : keysPut (q .operation) (c .slot) (c .partition) k (v .request ++ v .payload) (keysOf (s .keys))
+      ≡ granted d m v space .drive .tables .keys
+  unfolding granted alone
+  keys-g = rw (c-g, g .key) (keys-is d m f space q q-g (g .room) start placed-g)
+
+  pub partition-g : partitionAfter (q .operation) (c .object) (here .next) (here .place) (partitionOf (s .partition))
+      ≡ home (granted d m v space .drive .tables) v
+  unfolding granted
+  partition-g =
+      ap (λ (h : Site). partitionAfter (q .operation) (c .object) (h .next) (h .place) (partitionOf (s .partition))) site-g
+      ∙ rw (c-g, ← alone-home s f zero-g) (partition-is d m f space q q-g (g .room) start placed-g four five (in-five f zero-g))
+    where
+      four : length (d .tables .partitions) ≡ 4
+      four = refl
+
+      five : length (d .memories) ≡ 5
+      five = refl

@@ -1,0 +1,34 @@
+-- Everything as its function gave it.
+use mathlib.Core.Path.{_≡_}
+use Prim.Native.Nat.{_*_, _/_, _≤_}
+use native.Mathlib.Nat.{mul-le-mul}
+use native.Mathlib.Omega.{arith}
+use Rattle.partition.specs.Partition.{partitionOf, targetOf}
+use Rattle.drive.specs.Site.{siteOf}
+use borrow.Author.Needs.{needs}
+use Rattle.drive.proofs.serve.site_of.Statement.{statement}
+use Rattle.drive.proofs.serve.site_of.Tie as tie
+
+mul-t10 : tie.Need-mul-t10
+mul-t10 c =
+    let a = c .before .before .before .args in
+    let small : a .c .partition * (a .size / 4) ≤ 3 * 4194304 = mul-le-mul {m₁ = a .c .partition} {n₁ = 3} {m₂ = a .size / 4} {n₂ = 4194304} (omega arith) (omega arith) in
+    search needs
+
+returns : tie.Need-returns
+unfolding siteOf partitionOf targetOf
+returns c =
+    rw (
+      c .next-version .ensures,
+      c .before .present .ensures,
+      c .before .before .pick .ensures,
+      c .before .before .before .before .start-of .ensures,
+      c .before .before .before .before .before .before .before .named .ensures,
+    )
+
+pub site-of-spec : {M : Type 1} → statement M
+site-of-spec =
+    tie.close
+    (tie.spec
+    (λ c. search needs) (λ c κs. search needs) (λ c. search needs) mul-t10 (λ c κs. search needs)
+    (λ c κs. search needs) (λ c κs. search needs) (λ c κs. search needs) returns)
