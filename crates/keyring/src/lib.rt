@@ -2,7 +2,7 @@
 ghost use mathlib.Core.Path.{_≡_};
 ghost use mathlib.Core.List.{map};
 ghost use mathlib.Core.Option.{none, some};
-ghost use lib.ListN.{getD};
+ghost use lib.ListN.{getD, replicate};
 ghost use Rattle.rules.specs.Operations.{keyIn, keyPut, setAt};
 ghost use Rattle.keyring.specs.View.{keyOf, keysOf};
 
@@ -21,9 +21,9 @@ pub struct Keys {
     pub working1: [Key; 4],
 }
 
-// A key that was never set.
+// A key that was never set: 32 zero bytes that count for nothing.
 pub fn no_key() -> Key
-    ensures { λ r. ⌜ keyOf r ≡ none ⌝ }
+    ensures { λ r. ⌜ (keyOf r ≡ none) × (r .bytes ≡ replicate 32 0) ⌝ }
 {
     let bytes = [0u8; 32];
     Key { set: false, bytes }

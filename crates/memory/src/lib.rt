@@ -3,26 +3,20 @@
 ghost use mathlib.Core.Path.{_≡_};
 ghost use mathlib.Core.Bool.{not, cond};
 ghost use mathlib.Core.List.{[], _∷_, _++_};
-ghost use Prim.Native.Nat.{_-_, _≤_, min};
+ghost use Prim.Native.Nat.{_-_, _≤_};
 ghost use lib.ListN.{length};
 ghost use Rattle.lemmas.specs.Tests.{_under_};
 ghost use Rattle.lemmas.specs.Lists.{some?, keep};
 ghost use Rattle.rules.specs.declared.Entry.{Entry};
 ghost use Rattle.rules.specs.Drive.{lives, sameEntry, mostEntries};
 ghost use Rattle.memory.specs.Memory.{entriesOf};
+use lemmas::within;
 use rules::Entry;
 
 // A replay memory: its entries in order of grant.
 pub struct Memory {
     pub entries: [Entry; 64],
     pub count: usize,
-}
-
-// The smaller of two numbers.
-fn within(count: usize, most: usize) -> usize
-    ensures { λ r. ⌜ r ≡ min count most ⌝ }
-{
-    if count < most { count } else { most }
 }
 
 // How many entries a memory has.

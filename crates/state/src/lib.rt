@@ -3,7 +3,7 @@
 ghost use mathlib.Core.Path.{_≡_};
 ghost use mathlib.Core.Bool.{Bool, _&&_, _||_, cond};
 ghost use mathlib.Core.List.{[], _∷_, _++_};
-ghost use Prim.Native.Nat.{ℕ, _+_, _≤_, min};
+ghost use Prim.Native.Nat.{ℕ, _+_, _≤_};
 ghost use lib.ListN.{take, length};
 ghost use Rattle.lemmas.specs.Tests.{_under_, _is_, _isnt_};
 ghost use Rattle.lemmas.specs.Lists.{every, pairs, keep, find, change};
@@ -11,6 +11,7 @@ ghost use Rattle.rules.specs.declared.Object.{Object};
 ghost use Rattle.rules.specs.Drive.{mostObjects, soundObject, apart};
 ghost use Rattle.rules.specs.Operations.{withVersion};
 ghost use Rattle.state.specs.Objects.{listed, told};
+use lemmas::within;
 use rules::Object;
 
 // A partition's objects in order of creation.
@@ -23,13 +24,6 @@ pub struct Objects {
 pub enum Found {
     At(Object),
     Nothing,
-}
-
-// The smaller of two numbers.
-fn within(count: usize, most: usize) -> usize
-    ensures { λ r. ⌜ r ≡ min count most ⌝ }
-{
-    if count < most { count } else { most }
 }
 
 // How many objects there are.

@@ -19,7 +19,7 @@ returns-2 : tie.Need-returns-2
 returns-2 c =
     let a = c .before .before .args in
     let four : length (a .t1) ≡ 4 = search (needs, unmapped) in
-    c .no-key .ensures
+    c .no-key .ensures .0
     ∙ sym (List·getD-eq-default (map keyOf (a .t1)) none {n = a .p} (omega (arith, length-map (a .t1) keyOf)))
 
 pub key-at-spec : {M : Type 1} → statement M

@@ -39,7 +39,7 @@ returns-6 c =
     let k : rules.Keys = keysOf (a .keys) in
     let n = c .before .match .rest in
     let past : 5 ≤ a .slot = from-five (a .slot) (n .0 .0 .0 .0 .1) (n .0 .0 .0 .1) (n .0 .0 .1) (n .0 .1) (n .1) in
-    c .no-key .ensures
+    c .no-key .ensures .0
     ∙ sym
     (List·getD-eq-default
     (getD (k .working0) (a .p) none ∷ getD (k .working1) (a .p) none ∷ getD (k .partition) (a .p) none ∷ k .drive ∷ k .master ∷ [])

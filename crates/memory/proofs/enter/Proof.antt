@@ -11,7 +11,7 @@ returns : tie.Need-returns
 returns c =
     let a = c .before .args in
     let long : length (a .m .entries) ≡ 64 = search (needs, unmapped) in
-    (append-room (a .m .count) 64 (a .m .entries) long (a .e) (c .if1 .taken), search needs)
+    (append-room (a .m .count) 64 (a .m .entries) long (a .e) (omega arith), search needs)
 
 returns-2 : tie.Need-returns-2
 returns-2 c =

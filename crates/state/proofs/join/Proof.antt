@@ -11,7 +11,7 @@ returns : tie.Need-returns
 returns c =
     let a = c .before .args in
     let long : length (a .os .items) ≡ 16 = search (needs, unmapped) in
-    (append-room (a .os .count) 16 (a .os .items) long (a .o) (c .if1 .taken), search needs)
+    (append-room (a .os .count) 16 (a .os .items) long (a .o) (omega arith), search needs)
 
 returns-2 : tie.Need-returns-2
 returns-2 c =
