@@ -9,7 +9,7 @@ use lib.Bits.{bitXor}
 use lib.ListN.{length, getD, take, set, replicate}
 use lib.Seq.{take-suc, take-suc-set, paste}
 use Rattle.lemmas.specs.Fill.{paste-replicate}
-use Rattle.digest.specs.Sha256.{sha256}
+use Rattle.sha256_block.specs.Sha256.{sha256}
 use Rattle.digest.specs.Hmac.{keyBlock, xored}
 use Rattle.digest.specs.Laws.{length-sha256}
 

@@ -1,5 +1,3 @@
-pub mod Words
-pub mod Compression
 pub mod Stream
 pub mod Finish
 pub mod Keys

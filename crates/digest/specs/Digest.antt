@@ -6,7 +6,7 @@ use lib.ListN.{length, replicate}
 use Rattle.lemmas.specs.Tests.{_over_}
 use Rattle.lemmas.specs.Rows.{Row, line, firstRow}
 use Rattle.digest.specs.declared.Digest.{Digest}
-use Rattle.digest.specs.Sha256.{sha256}
+use Rattle.sha256_block.specs.Sha256.{sha256}
 use Rattle.digest.specs.Hmac.{hmac}
 
 -- key and message each have at most 16,777,216 bytes

@@ -5,7 +5,7 @@ use Prim.Native.Nat.{ℕ, _-_}
 use lib.Bits.{bitXor}
 use lib.ListN.{length, replicate}
 use Rattle.lemmas.specs.Tests.{_over_}
-use Rattle.digest.specs.Sha256.{sha256}
+use Rattle.sha256_block.specs.Sha256.{sha256}
 
 -- keys longer than B bytes are first hashed using H
 abbrev pub shortened : List ℕ → List ℕ

@@ -4,7 +4,7 @@ use mathlib.Core.List.{List, _++_}
 use Prim.Native.Nat.{ℕ}
 use lib.ListN.{length}
 use Rattle.lemmas.specs.BigEndian.{bigEndian}
-use Rattle.digest.specs.Sha256.{sha256}
+use Rattle.sha256_block.specs.Sha256.{sha256}
 use Rattle.digest.specs.Hmac.{hmac, xored, keyBlock, ipad, opad}
 
 pub length-sha256 : (m : List ℕ) → length (sha256 m) ≡ 32

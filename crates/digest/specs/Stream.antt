@@ -5,7 +5,7 @@ use Prim.Native.Nat.{ℕ, _*_, _/_, _%_, _^_}
 use lib.ListN.{length, take, drop}
 use Rattle.digest.specs.declared.hash.Hash.{Hash}
 use Rattle.digest.specs.declared.mac.Mac.{Mac}
-use Rattle.digest.specs.Sha256.{blocks, H₀}
+use Rattle.sha256_block.specs.Sha256.{blocks, H₀}
 use Rattle.digest.specs.Hmac.{xored, keyBlock, ipad, opad}
 
 -- a hash: the count of the bytes, the whole blocks worked in, and the bytes after them

@@ -6,11 +6,11 @@ ghost use Prim.Native.Nat.{ℕ, _+_, _*_, _-_, _/_, _%_, _<_, _≤_};
 ghost use lib.ListN.{length, drop, take, replicate};
 ghost use lib.Seq.{paste};
 ghost use Rattle.lemmas.specs.BigEndian.{bigEndian};
-ghost use Rattle.digest.specs.Sha256.{bytes, sha256};
+ghost use Rattle.sha256_block.specs.Sha256.{bytes, sha256};
 ghost use Rattle.digest.specs.Stream.{Absorbed};
-use super::block::State;
-use super::block::blocks;
-use super::block::compress;
+use sha256_block::State;
+use sha256_block::blocks;
+use sha256_block::compress;
 use std::num::wrapping_add_u64;
 
 // `total` counts the bytes, modulo 2^64; the last total % 64 of them stand at the start of `pending`.
@@ -124,7 +124,7 @@ pub fn absorb(h: Hash, part: &[u8]) -> Hash
         };
     }
     let full = stashed(pending, used, part, 0, room);
-    let first = compress(chain, &full, 0);
+    let first = compress(chain, &full);
     let last = blocks(first, part, room);
     let rest = (n - room) % 64;
     let p = stashed(full, 0, part, n - rest, rest);
@@ -146,12 +146,12 @@ pub fn finish(h: Hash) -> [u8; 32]
     let bits = h.total << 3;
     if used < 56 {
         let only = counted(marked(pending, used, 56), bits);
-        return bytes_of(compress(chain, &only, 0));
+        return bytes_of(compress(chain, &only));
     }
     let full = marked(pending, used, 64);
-    let first = compress(chain, &full, 0);
+    let first = compress(chain, &full);
     let last = counted([0u8; 64], bits);
-    bytes_of(compress(first, &last, 0))
+    bytes_of(compress(first, &last))
 }
 
 // The digest of `m`.

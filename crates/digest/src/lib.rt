@@ -3,10 +3,8 @@
 ghost use mathlib.Core.Path.{_≡_};
 ghost use Rattle.digest.specs.Digest.{sha256Answer, hmacAnswer};
 
-mod block;
 pub mod hash;
 pub mod mac;
-mod word;
 
 // The most bytes that a key or a message may have.
 const MOST: usize = 16_777_216;

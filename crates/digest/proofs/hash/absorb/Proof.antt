@@ -3,7 +3,7 @@ use mathlib.Core.Path.{_≡_, refl, ap, _∙_}
 use Prim.Native.Nat.{_-_, _%_, _/_}
 use native.Mathlib.Omega.{arith}
 use lib.ListN.{length, drop}
-use Rattle.digest.specs.Sha256.{blocks}
+use Rattle.sha256_block.specs.Sha256.{blocks}
 use Rattle.digest.proofs.Stream.{absorbed-short, absorbed-long}
 use borrow.Author.Needs.{needs}
 use Rattle.digest.proofs.hash.absorb.Statement.{statement}
@@ -39,5 +39,5 @@ absorb-spec =
     tie.close
     (tie.spec
     (λ c κs. search needs) (λ c. search needs) (λ c κs. search needs) returns (λ c κs. search needs)
-    (λ c. search needs) (λ c κs. search needs) (λ c κs. search needs) (λ c. search needs) (λ c κs. search needs)
+    (λ c κs. search needs) (λ c κs. search needs) (λ c. search needs) (λ c κs. search needs)
     returns-2)

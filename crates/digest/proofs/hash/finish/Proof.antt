@@ -5,7 +5,7 @@ use Prim.Native.Nat.{_*_, _%_, _^_}
 use native.Mathlib.Omega.{arith}
 use lib.ListN.{length, take}
 use Rattle.lemmas.specs.BigEndian.{bigEndian}
-use Rattle.digest.specs.Sha256.{bytes, compress}
+use Rattle.sha256_block.specs.Sha256.{bytes, compress}
 use Rattle.digest.proofs.Finish.{finish-short, finish-long}
 use borrow.Author.Needs.{needs}
 use Rattle.digest.proofs.hash.finish.Statement.{statement}
@@ -39,6 +39,6 @@ pub finish-spec : {M : Type 1} → statement M
 finish-spec =
     tie.close
     (tie.spec
-    (λ c κs. search needs) (λ c κs. search needs) (λ c. search needs) (λ c κs. search needs) (λ c κs. search needs)
-    returns (λ c κs. search needs) (λ c. search needs) (λ c κs. search needs) (λ c κs. search needs)
-    (λ c. search needs) (λ c κs. search needs) (λ c κs. search needs) returns-2)
+    (λ c κs. search needs) (λ c κs. search needs) (λ c κs. search needs) (λ c κs. search needs)
+    returns (λ c κs. search needs) (λ c κs. search needs) (λ c κs. search needs)
+    (λ c κs. search needs) (λ c κs. search needs) returns-2)

@@ -1,6 +1,6 @@
 -- No byte is taken: the fields are those of the initial hash value.
 use mathlib.Core.Path.{refl}
-use Rattle.digest.specs.Sha256.{blocks, H₀}
+use Rattle.sha256_block.specs.Sha256.{blocks, H₀}
 use Rattle.digest.proofs.hash.start.Statement.{statement}
 use Rattle.digest.proofs.hash.start.Tie as tie
 

@@ -1,7 +1,7 @@
 -- The outer hash of the inner one, as hmac has it.
 use mathlib.Core.Path.{ap, _∙_}
 use mathlib.Core.List.{_++_}
-use Rattle.digest.specs.Sha256.{sha256}
+use Rattle.sha256_block.specs.Sha256.{sha256}
 use Rattle.digest.specs.Hmac.{hmac, xored, keyBlock}
 use borrow.Author.Needs.{needs}
 use Rattle.digest.proofs.mac.finish.Statement.{statement}

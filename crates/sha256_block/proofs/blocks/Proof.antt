@@ -1,0 +1,22 @@
+-- From past the end on there is no block.
+use mathlib.Core.Path.{_≡_}
+use Prim.Native.Nat.{_-_, _/_}
+use native.Mathlib.Omega.{arith}
+use lib.ListN.{length}
+use borrow.Author.Needs.{needs}
+use Rattle.sha256_block.specs.Sha256.{blocks}
+use Rattle.sha256_block.proofs.blocks.Statement.{statement}
+use Rattle.sha256_block.proofs.blocks.Tie as tie
+
+returns : tie.Need-returns
+unfolding blocks
+returns c =
+    let a = c .before .before .args in
+    let e : (length (a .m .now) - a .from) / 64 ≡ 0 = omega arith in
+    rw e
+
+pub blocks-spec : {M : Type 1} → statement M
+blocks-spec =
+    tie.close
+    (tie.spec
+    returns (λ c κs. search needs) (λ c. search needs))

@@ -1,0 +1,2 @@
+-- FIPS 180-4.
+pub mod Sha256
