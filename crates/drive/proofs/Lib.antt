@@ -2,3 +2,7 @@ pub mod Frames
 pub mod Rows
 pub mod Grants
 pub mod Serving
+-- The customer's demands over the code's own contracts.
+pub mod Demand1
+pub mod Calls
+pub mod Demand3

@@ -1,5 +1,6 @@
--- The record as the rules see it, and the promises of format and gate.
+-- The record as the rules see it, the promises of format and gate, and the customer's demands over these promises.
 pub mod View
 pub mod Share
 pub mod Site
 pub mod Met
+pub mod Chain

@@ -33,7 +33,6 @@ use Rattle.rules.proofs.Bare.{bare-after}
 use Rattle.rules.proofs.Clear.{clear22, grant}
 use Rattle.rules.proofs.Holds.{Good, good-after, Grant}
 use Rattle.rules.proofs.Memories.{short, short-entered, short-kept}
-use Rattle.rules.proofs.Signed.{frame}
 use Rattle.rules.proofs.Sound.{SoundTables}
 
 -- ---- what holds before and after every call
@@ -73,7 +72,9 @@ refreshed M s l c v = record {
   size = v .size;
   tables = ap (λ (t : Tables Object). withHighWater (newHighWater (t .highWater) (c .clock)) t) (v .tables);
   good = record { size = v .good .size; four = v .good .four; sound = v .good .sound; bytes = v .good .bytes };
-  five = length-map (s .drive .memories) (keep (lives (newHighWater (s .drive .tables .highWater) (c .clock)))) ∙ v .five;
+  five =
+      length-map (s .drive .memories) (keep (lives (newHighWater (s .drive .tables .highWater) (c .clock))))
+      ∙ v .five;
   short = short-kept (newHighWater (s .drive .tables .highWater) (c .clock)) (s .drive .memories) (v .short);
 }
 

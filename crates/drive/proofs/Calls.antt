@@ -1,0 +1,51 @@
+-- A chain of calls as the rules see it: what it leaves, returns and feeds the ledger is what document 01's gate does
+-- on the same calls.
+use mathlib.Core.Path.{_∙_, _≡_, ap, refl, subst, sym}
+use mathlib.Core.List.{[], _++_, _∷_, List, map}
+use Prim.Native.Nat.{ℕ}
+use Rattle.rules.specs.Demands as rules
+use Rattle.rules.specs.Demands.{answer, fed, step}
+use Rattle.rules.specs.Gate.{Call}
+use Rattle.rules.specs.Ledger.{Fed}
+use Rattle.drive.specs.Chain.{after, Chain, Done, fedBy, Granted, Left, leftBy, Met, seen}
+
+-- the calls that were made
+abbrev pub callsOf : List Done → List Call
+callsOf cs = map Done.call cs
+
+-- one call
+step-met : (s : Left) (c : Done) → Met s c → step (seen s) (c .call) ≡ seen (leftBy c)
+unfolding step answer
+step-met s c m = λ i. record { drive = sym (m .drive) i; medium = sym (m .medium) i }
+
+pub row-met : (s : Left) (c : Done) → Met s c → answer (seen s) (c .call) .row ≡ c .answer .row
+unfolding answer
+row-met s c m = sym (m .row)
+
+pub space-met : (s : Left) (c : Done) → Met s c → answer (seen s) (c .call) .space ≡ c .space
+unfolding answer
+space-met s c m = sym (m .space)
+
+-- all: drive and medium after them, and what they feed the ledger
+pub chain-after : (s : Left) (before later : List Done) → Chain s (before ++ later)
+    → rules.after (seen s) (callsOf before) ≡ seen (after s before)
+unfolding rules.after after Chain
+chain-after s [] later k = refl
+chain-after s (c ∷ cs) later k =
+    ap (λ (t : rules.State). rules.after t (callsOf cs)) (step-met s c (k .0))
+    ∙ chain-after (leftBy c) cs later (k .1)
+
+pub chain-fed : (s : Left) (before later : List Done) → Chain s (before ++ later)
+    → fed (seen s) (callsOf before) ≡ map fedBy before
+unfolding fed Chain
+chain-fed s [] later k = refl
+chain-fed s (c ∷ cs) later k =
+    (λ i. record { frame = c .call .frame; clock = c .call .clock; row = row-met s c (k .0) i }
+    ∷ fed (step-met s c (k .0) i) (callsOf cs))
+    ∙ ap (λ (l : List Fed). fedBy c ∷ l) (chain-fed (leftBy c) cs later (k .1))
+
+-- and the rest of a chain is one
+pub chain-rest : (s : Left) (before later : List Done) → Chain s (before ++ later) → Chain (after s before) later
+unfolding after Chain
+chain-rest s [] later k = k
+chain-rest s (c ∷ cs) later k = chain-rest (leftBy c) cs later (k .1)

@@ -1,0 +1,126 @@
+-- The customer's demands 1 and 3 over the code's own contract: of any calls of format and gate that keep their
+-- promises (`FormatMet`, `GateMet`), and of nothing else. Proved in proofs/: `demand1`, `demand3`.
+-- s: drive and medium. c: a call made. l: a ledger. M: the medium's size.
+use mathlib.Core.Path.{_≡_}
+use mathlib.Core.List.{[], _++_, _∷_, List, map}
+use Prim.Native.Nat.{_≤_, ℕ}
+use lib.ListN.{length}
+use Rattle.lemmas.specs.Lists.{part}
+use Rattle.lemmas.specs.Rows.{firstRow}
+use Rattle.rules.specs.Demands.{Agrees, asks, bytesOf, does, MarkAndOutlived, nonce, State}
+use Rattle.rules.specs.Frame.{read}
+use Rattle.rules.specs.Gate.{Call}
+use Rattle.rules.specs.Ledger.{clocked, Fed, Ledger, ledger, start, tablesOf}
+use Rattle.rules.specs.Operations.{headSize}
+use Rattle.rules.specs.Rows.{bounds}
+use Rattle.drive.specs.declared.Drive.{Drive}
+use Rattle.drive.specs.declared.Answer.{Answer}
+use Rattle.drive.specs.declared.Formatted.{Formatted}
+use Rattle.drive.specs.View.{view}
+use Rattle.drive.specs.Met.{FormatMet, GateMet}
+
+-- ---- one call made: what it brought (frame, clock reading, reply space), what it returned, and what it left of the
+-- medium and of the reply space
+pub record Done : Type 0 where
+  pub call : Call
+  pub answer : Answer
+  pub medium : List ℕ
+  pub space : List ℕ
+
+abbrev pub Granted : Done → Type 0
+Granted c = c .answer .row ≡ 0
+
+-- ---- a list of calls
+-- drive and medium, as a call left them
+pub record Left : Type 0 where
+  pub drive : Drive
+  pub medium : List ℕ
+
+abbrev pub leftBy : Done → Left
+leftBy c = record { drive = c .answer .drive; medium = c .medium }
+
+-- as the last call left them
+unfoldable pub after : Left → List Done → Left
+after s [] = s
+after s (c ∷ cs) = after (leftBy c) cs
+
+-- "Each call gets the drive that the last one returned and the medium as it left it, with a frame, a reading and a
+-- reply space of its own": each keeps the gate's promise with these
+abbrev pub Met : Left → Done → Type 0
+Met s c = GateMet (s .drive) (s .medium) (c .call) (c .answer) (c .medium) (c .space)
+
+unfoldable pub Chain : Left → List Done → Type 0
+Chain s [] = Unit {0}
+Chain s (c ∷ cs) = Met s c × Chain (leftBy c) cs
+
+-- "The list starts from drive and medium of a format that returned row 0."
+pub record Made (medium : List ℕ) (F : ℕ) (master key : List ℕ) (r : Formatted) (zeroed : List ℕ)
+    (calls : List Done) : Type 0 where
+  pub format : FormatMet medium F master key r zeroed
+  pub row : r .row ≡ 0
+  pub chain : Chain (record { drive = r .drive; medium = zeroed }) calls
+
+-- ---- the ledger: fed "each call's frame, clock reading and row; nothing comes from the drive record"
+abbrev pub fedBy : Done → Fed
+fedBy c = record { frame = c .call .frame; clock = c .call .clock; row = c .answer .row }
+
+abbrev pub book : ℕ → Ledger → List Done → Ledger
+book M l before = ledger M l (map fedBy before)
+
+-- ---- demand 1, of one call put to the drive and the medium s
+pub record Demand1 (s : Left) (c : Done) : Type 0 where
+  -- "gets a grant or one row number from document 01"
+  pub row : c .answer .row ≤ 23
+  -- "A refusal writes no byte of the reply space or the medium"
+  pub length : (Granted c → ⊥) → c .answer .length ≡ 0
+  pub space : (Granted c → ⊥) → c .space ≡ c .call .space
+  pub medium : (Granted c → ⊥) → c .medium ≡ s .medium
+  -- "and in the drive it moves only the time mark and drops entries that the mark has outlived"
+  pub drive : (Granted c → ⊥) → MarkAndOutlived (view (s .drive)) (view (c .answer .drive))
+  -- row 1: "it comes back unchanged, mark included", the very record
+  pub unchanged : c .answer .row ≡ 1 → c .answer .drive ≡ s .drive
+
+-- "Whoever sends a frame, of any length and content, with any clock reading and any space for the reply"
+abbrev pub AllOfDemand1 : Type 0
+AllOfDemand1 = (s : Left) (c : Done) → Met s c → Demand1 s c
+
+-- ---- demand 3
+-- drive and medium as the rules see them
+abbrev pub seen : Left → State
+seen s = record { drive = view (s .drive); medium = s .medium }
+
+-- all of demand 3, of the calls made from drive and medium s on, M bytes, with the ledger that starts as l
+pub record Demand3 (M : ℕ) (s : Left) (l : Ledger) (calls : List Done) : Type 0 where
+  -- "No two grants in the whole list share nonce memory, key slot, holder, time and count."
+  pub noRepeat : (before between later : List Done) (b c : Done)
+      → calls ≡ before ++ (b ∷ (between ++ (c ∷ later)))
+      → Granted b
+      → Granted c
+      → nonce (b .call) ≡ nonce (c .call) → ⊥
+  -- "Each grant is within its credential's rights, expiry and .. range. It is under the key and .. the version that
+  -- the format or earlier grants put there": rows 8–10 and 13–17, by the ledger before the call with the mark that
+  -- this call sets
+  pub kept : (before later : List Done) (c : Done)
+      → calls ≡ before ++ (c ∷ later)
+      → Granted c
+      → firstRow (bounds (tablesOf (clocked (c .call .clock) (book M l before))) (asks (c .call))) ≡ 0
+  -- "Each granted read shows, for every byte, exactly the last granted write to it since that object's creation, or
+  -- zero": after the reply's head, the bytes from A up to A + B of the ledger's object
+  pub shown : (before later : List Done) (c : Done)
+      → calls ≡ before ++ (c ∷ later)
+      → Granted c
+      → does (c .call) ≡ read
+      → part (c .space) headSize (asks (c .call) .req .B)
+      ≡ part (bytesOf (book M l before) (asks (c .call))) (asks (c .call) .req .A) (asks (c .call) .req .B)
+  -- "After every call the drive holds exactly the objects that the grants so far left, their areas disjoint and each
+  -- inside its own partition." And before the first
+  pub agrees : (before later : List Done) → calls ≡ before ++ later
+      → Agrees M (seen (after s before)) (book M l before)
+
+-- for every format that returned row 0 and every list of calls, "whatever the frames say, whatever the clock does and
+-- whatever spaces are lent"
+abbrev pub AllOfDemand3 : Type 0
+AllOfDemand3 =
+    (medium : List ℕ) (F : ℕ) (master key : List ℕ) (r : Formatted) (zeroed : List ℕ) (calls : List Done)
+    → Made medium F master key r zeroed calls
+    → Demand3 (length medium) (record { drive = r .drive; medium = zeroed }) (start F master key) calls
