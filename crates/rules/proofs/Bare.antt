@@ -1,18 +1,22 @@
--- What a grant does to the ledger is, without the bytes, what it does to the drive's tables.
-use mathlib.Core.Path.{_≡_, ap, refl}
+-- What a grant does to the ledger is, without the bytes, what it does to the drive's tables; and the ledger's object
+-- that a frame names.
+use mathlib.Core.Path.{_∙_, _≡_, ap, refl, sym}
 use mathlib.Core.Bool.{Bool, cond, false, true}
-use mathlib.Core.List.{List, map}
+use mathlib.Core.Option.{none, Option, Option·getD, Option·map, some}
+use mathlib.Core.List.{List, List·Memᴰ, map}
 use Prim.Native.Nat.{_+_, ℕ}
 use Rattle.lemmas.specs.ListLaws.{
   change-map,
   change-map-same,
+  find-map,
+  found,
   keep-map,
   map-append,
   nth-map,
   update-map,
   update-map-same,
 }
-use Rattle.lemmas.specs.Lists.{change}
+use Rattle.lemmas.specs.Lists.{change, find, missing}
 use Rattle.lemmas.specs.Tests.{_is_, _isnt_}
 use Rattle.rules.specs.declared.Object.{Object}
 use Rattle.rules.specs.Drive.{changed, Partition, partitionAt, quarter, Tables, unused}
@@ -31,7 +35,17 @@ use Rattle.rules.specs.Ledger.{
   written,
   wrote,
 }
-use Rattle.rules.specs.Operations.{created, deleted, raised, startOf, tablesAfter, withVersion}
+use Rattle.rules.specs.Operations.{
+  created,
+  deleted,
+  named,
+  noObject,
+  objectOf,
+  raised,
+  startOf,
+  tablesAfter,
+  withVersion,
+}
 
 pub bare-at : (l : Ledger) (p : ℕ) → partitionAt (tablesOf l) p ≡ bare (partitionAt l p)
 unfolding tablesOf
@@ -91,3 +105,34 @@ bare-after create M x l =
 bare-after delete M x l = tables-with l (update-map bare (gone (x .cred .object)) (deleted (x .cred .object))
     (bare-gone (x .cred .object)) (x .cred .partition) (l .partitions))
 bare-after setKey M x l = refl
+
+-- ---- an object that the drive has, the ledger has too
+found-is : (l : Ledger) (p n : ℕ) → find Object.number n (partitionAt (tablesOf l) p .objects)
+    ≡ Option·map Held.object (find numberOf n (partitionAt l p .objects))
+found-is l p n =
+    ap (λ (r : Partition Object). find Object.number n (r .objects)) (bare-at l p)
+    ∙ find-map Held.object Object.number n (partitionAt l p .objects)
+
+missing-map : (o : Option Held) → missing (Option·map Held.object o) ≡ missing o
+unfolding missing
+missing-map none = refl
+missing-map (some h) = refl
+
+pub missing-is : (l : Ledger) (p n : ℕ) → missing (find numberOf n (partitionAt l p .objects))
+    ≡ missing (find Object.number n (partitionAt (tablesOf l) p .objects))
+missing-is l p n = sym (missing-map (find numberOf n (partitionAt l p .objects))) ∙ ap missing (sym (found-is l p n))
+
+-- the one that a frame is about
+pub the-held : (l : Ledger) (x : Fields) → missing (named (tablesOf l) x) ≡ false
+    → (h : Held) × (find numberOf (x .cred .object) (partitionAt l (x .cred .partition) .objects) ≡ some h)
+    × List·Memᴰ h (partitionAt l (x .cred .partition) .objects) × (numberOf h ≡ x .cred .object)
+unfolding named
+the-held l x e = found numberOf (x .cred .object) (partitionAt l (x .cred .partition) .objects)
+    (missing-is l (x .cred .partition) (x .cred .object) ∙ e)
+
+pub the-object : (l : Ledger) (x : Fields) (e : missing (named (tablesOf l) x) ≡ false)
+    → objectOf (tablesOf l) x ≡ the-held l x e .0 .object
+unfolding objectOf named
+the-object l x e = ap (λ (o : Option Object). Option·getD o noObject)
+    (found-is l (x .cred .partition) (x .cred .object)
+    ∙ ap (λ (o : Option Held). Option·map Held.object o) (the-held l x e .1))

@@ -6,7 +6,7 @@ use mathlib.Core.List.{List, List·Memᴰ}
 use Prim.Native.Nat.{_+_, _<_, _≤_, suc, zero, ℕ}
 use native.Mathlib.Omega.{arith}
 use lib.ListN.{length}
-use borrow.Author.Tests.{eq-eqb, eqb-false, eqb-true, ltb-false, not-false}
+use borrow.Author.Tests.{eq-eqb, eqb-false, eqb-true, lt-ltb, ltb-false, ne-eqb, not-false}
 use Rattle.lemmas.specs.ListLaws.{every-member, not-found}
 use Rattle.lemmas.specs.Lists.{every, find, missing}
 use Rattle.lemmas.specs.Parts.{length-part}
@@ -30,7 +30,7 @@ use Rattle.rules.specs.Frame.{
   unknown,
   write,
 }
-use Rattle.rules.specs.Operations.{named, objectOf, placeOf, startOf}
+use Rattle.rules.specs.Operations.{named, objectOf, placeOf, present, startOf}
 use Rattle.rules.specs.Rows.{
   bounds,
   credentialFaults,
@@ -166,6 +166,10 @@ module _ (d : Drive) (m f : List ℕ) (clock : ℕ) (space : List ℕ) (g : firs
   unfolding rows frameRows driveRows applies
   clear14 = clear 14
 
+  clear15 : row15 (e .tables) (fields f) ≡ false
+  unfolding rows frameRows driveRows applies
+  clear15 = clear 15
+
   clear17 : row17 (e .tables) (fields f) ≡ false
   unfolding rows frameRows driveRows applies
   clear17 = clear 17
@@ -229,19 +233,33 @@ module _ (d : Drive) (m f : List ℕ) (clock : ℕ) (space : List ℕ) (g : firs
   abbrev Is : ℕ → Type 0
   Is k = (fields f .req .operation is k) ≡ true
 
+  -- an object, not 0, is there, and operations 1 to 6 name its version
+  pub exists : (fields f .cred .object ≡ 0 → ⊥) → missing (named (e .tables) (fields f)) ≡ false
+  unfolding row14
+  exists h = and-false (fields f .cred .object isnt 0) (missing (named (e .tables) (fields f)))
+      (ap not (ne-eqb (fields f .cred .object) 0 h)) clear14
+
+  pub version-is : fields f .req .operation ≤ 6 → fields f .cred .version ≡ present (e .tables) (fields f)
+  unfolding row15
+  version-is h = eqb-true (fields f .cred .version) (present (e .tables) (fields f))
+      (not-false (fields f .cred .version is present (e .tables) (fields f))
+      (and-false (fields f .req .operation under 7) (fields f .cred .version isnt present (e .tables) (fields f))
+      (lt-ltb (fields f .req .operation) 7 (omega arith)) clear15))
+
+  -- what is read, written or deleted is an object
+  whole : (fields f .req .operation is 1 || fields f .req .operation is 2 || fields f .req .operation is 6) ≡ true
+      → fields f .cred .object ≡ 0 → ⊥
+  whole h = eqb-false (fields f .cred .object) 0
+      (and-false (fields f .req .operation is 1 || fields f .req .operation is 2 || fields f .req .operation is 6)
+      (fields f .cred .object is 0) h (none-of (misfits (fields f .cred) (fields f .req)) clear6 2))
+
+  pub deletes-object : operationOf (fields f) ≡ delete → fields f .cred .object ≡ 0 → ⊥
+  deletes-object o = whole (rw (code-of (fields f .req .operation) delete refl o) refl)
+
   -- an object that a frame for reading or writing names is there, and the bytes are inside it
   pub there : moves (fields f .req) ≡ true → missing (named (e .tables) (fields f)) ≡ false
-  unfolding row14
-  there h = and-false (fields f .cred .object isnt 0) (missing (named (e .tables) (fields f))) nonzero clear14
-    where
-      three : (fields f .req .operation is 1 || fields f .req .operation is 2 || fields f .req .operation is 6) ≡ true
-      three = or-intro-l (fields f .req .operation is 1 || fields f .req .operation is 2)
-          (fields f .req .operation is 6) h
-
-      nonzero : (fields f .cred .object isnt 0) ≡ true
-      nonzero = ap not (and-false (fields f .req .operation is 1 || fields f .req .operation is 2
-          || fields f .req .operation is 6) (fields f .cred .object is 0) three
-          (none-of (misfits (fields f .cred) (fields f .req)) clear6 2))
+  there h = exists (whole (or-intro-l (fields f .req .operation is 1 || fields f .req .operation is 2)
+      (fields f .req .operation is 6) h))
 
   pub in-object : moves (fields f .req) ≡ true → fields f .req .A + fields f .req .B ≤ objectOf (e .tables)
       (fields f) .size
@@ -279,9 +297,21 @@ module _ (d : Drive) (m f : List ℕ) (clock : ℕ) (space : List ℕ) (g : firs
         (code-of (fields f .req .operation) write refl o);
   }
 
+  pub number-free : operationOf (fields f) ≡ create
+      → missing (find Object.number (fields f .req .A) (partitionAt (e .tables)
+      (fields f .cred .partition) .objects)) ≡ true
+  unfolding row18
+  number-free o =
+      not-false (missing (find Object.number (fields f .req .A) (partitionAt (e .tables)
+      (fields f .cred .partition) .objects)))
+      (and-false (fields f .req .operation is 5)
+      (not (missing (find Object.number (fields f .req .A) (partitionAt (e .tables)
+      (fields f .cred .partition) .objects))))
+      (eq-eqb (fields f .req .operation) 5 (code-of (fields f .req .operation) create refl o)) clear18)
+
   can-create : SoundTables (quarter (e .size)) (e .tables) → operationOf (fields f) ≡ create
       → CanCreate (quarter (e .size)) (e .tables) (fields f)
-  unfolding placeOf startOf row18 row19 row20
+  unfolding placeOf startOf row19 row20
   can-create s o =
       let k : Is 5 = eq-eqb (fields f .req .operation) 5 (code-of (fields f .req .operation) create refl o) in
       let h6 : (fields f .req .A is 0 || fields f .req .B is 0) ≡ false =
@@ -294,10 +324,7 @@ module _ (d : Drive) (m f : List ℕ) (clock : ℕ) (space : List ℕ) (g : firs
       record {
         number = omega arith;
         size = omega arith;
-        free = not-found Object.number (fields f .req .A) here
-            (not-false (missing (find Object.number (fields f .req .A) here))
-            (and-false (fields f .req .operation is 5)
-            (not (missing (find Object.number (fields f .req .A) here))) k clear18));
+        free = not-found Object.number (fields f .req .A) here (number-free o);
         room = omega (arith, it .count);
         place = placed extentStep (quarter (e .size)) here (fields f .req .B) (omega arith) sized (omega arith)
             (and-false (fields f .req .operation is 5)

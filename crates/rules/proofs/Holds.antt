@@ -2,7 +2,6 @@
 use mathlib.Core.Path.{_∙_, _≡_, ap, refl, subst, sym}
 use mathlib.Core.Logic.{_⊎_, inl, inr}
 use mathlib.Core.Bool.{_||_, Bool, cond, false, true}
-use mathlib.Core.Option.{none, Option, Option·getD, Option·map, some}
 use mathlib.Core.List.{[], _∷_, List, List·Memᴰ, List·Memᴰ·append-cases, List·Memᴰ·eq-of-singleton, List·Memᴰ·not-nil}
 use Prim.Native.Nat.{_*_, _+_, _<_, _≤_, ℕ}
 use native.Mathlib.Decide.{decLt, ℕ-discrete}
@@ -11,20 +10,8 @@ use native.Mathlib.Omega.{arith}
 use lib.Dec.{eqb, leb}
 use lib.ListN.{getD, length, length-replicate, List·getD-eq-default, replicate}
 use borrow.Author.Tests.{eqb-false, leb-true, not-true}
-use Rattle.lemmas.specs.ListLaws.{
-  every-member,
-  every-unmap,
-  find-map,
-  found,
-  length-update,
-  member-change,
-  member-keep,
-  nth-update,
-  nth-update-other,
-  pairs-members,
-  pairs-unmap,
-}
-use Rattle.lemmas.specs.Lists.{change, every, find, missing, part, splice, update}
+use Rattle.lemmas.specs.ListLaws.{every-member, every-unmap, length-update, member-change, member-keep, nth-update, nth-update-other, pairs-members, pairs-unmap}
+use Rattle.lemmas.specs.Lists.{change, every, missing, part, splice, update}
 use Rattle.lemmas.specs.Parts.{length-splice, part-apart, part-inside, part-new}
 use Rattle.lemmas.specs.Tests.{_is_, _isnt_, and-l, and-r, or-cases}
 use Rattle.rules.specs.declared.Object.{Object}
@@ -45,8 +32,8 @@ use Rattle.rules.specs.Ledger.{
   written,
   wrote,
 }
-use Rattle.rules.specs.Operations.{extentStart, mediumAfter, named, noObject, objectOf, startOf}
-use Rattle.rules.proofs.Bare.{bare-after, bare-at}
+use Rattle.rules.specs.Operations.{extentStart, mediumAfter, named, objectOf, startOf}
+use Rattle.rules.proofs.Bare.{bare-after, bare-at, the-held, the-object}
 use Rattle.rules.proofs.Placing.{clearOf}
 use Rattle.rules.proofs.Sound.{
   at-sound,
@@ -208,42 +195,6 @@ module _ (M : ℕ) (m : List ℕ) (l : Ledger) (g : Good M m l) where
       → part m (r * quarter M + h .object .start) (h .object .size) ≡ h .bytes
   still p r h e k = g .bytes r h k
 
-  -- ---- an object that the drive has, the ledger has too
-  found-is : (p n : ℕ) → find Object.number n (partitionAt (tablesOf l) p .objects)
-      ≡ Option·map Held.object (find numberOf n (partitionAt l p .objects))
-  found-is p n =
-      ap (λ (r : Partition Object). find Object.number n (r .objects)) (bare-at l p)
-      ∙ find-map Held.object Object.number n (partitionAt l p .objects)
-
-  missing-map : (o : Option Held) → missing (Option·map Held.object o) ≡ missing o
-  unfolding missing
-  missing-map none = refl
-  missing-map (some h) = refl
-
-  pub held-at : (p n : ℕ) → missing (find Object.number n (partitionAt (tablesOf l) p .objects)) ≡ false
-      → (h : Held) × (find numberOf n (partitionAt l p .objects) ≡ some h) × List·Memᴰ h (partitionAt l p .objects)
-      × (numberOf h ≡ n)
-  held-at p n e =
-      found numberOf n (partitionAt l p .objects)
-      (sym (missing-map (find numberOf n (partitionAt l p .objects))) ∙ ap missing (sym (found-is p n)) ∙ e)
-
-  pub object-at : (p n : ℕ) (e : missing (find Object.number n (partitionAt (tablesOf l) p .objects)) ≡ false)
-      → Option·getD (find Object.number n (partitionAt (tablesOf l) p .objects)) noObject ≡ held-at p n e .0 .object
-  object-at p n e = ap (λ (o : Option Object). Option·getD o noObject)
-      (found-is p n ∙ ap (λ (o : Option Held). Option·map Held.object o) (held-at p n e .1))
-
-  -- the one that a frame is about
-  pub the-held : (x : Fields) → missing (named (tablesOf l) x) ≡ false
-      → (h : Held) × (find numberOf (x .cred .object) (partitionAt l (x .cred .partition) .objects) ≡ some h)
-      × List·Memᴰ h (partitionAt l (x .cred .partition) .objects) × (numberOf h ≡ x .cred .object)
-  unfolding named
-  the-held x e = held-at (x .cred .partition) (x .cred .object) e
-
-  pub the-object : (x : Fields) (e : missing (named (tablesOf l) x) ≡ false)
-      → objectOf (tablesOf l) x ≡ the-held x e .0 .object
-  unfolding objectOf named the-held
-  the-object x e = object-at (x .cred .partition) (x .cred .object) e
-
   -- ---- 2. Write
   written-bytes : (x : Fields) (k : Held) → x .cred .partition < 4
       → List·Memᴰ k (partitionAt l (x .cred .partition) .objects) → numberOf k ≡ x .cred .object
@@ -299,9 +250,9 @@ module _ (M : ℕ) (m : List ℕ) (l : Ledger) (g : Good M m l) where
       (at (x .cred .partition) (written x) l)
   unfolding extentStart
   write-bytes x hp c =
-      rw (the-object x (c .there))
-      (written-bytes x (the-held x (c .there) .0) hp (the-held x (c .there) .2) (the-held x (c .there) .3)
-      (omega (arith, c .len, c .fits, ap Object.size (the-object x (c .there)))))
+      rw (the-object l x (c .there))
+      (written-bytes x (the-held l x (c .there) .0) hp (the-held l x (c .there) .2) (the-held l x (c .there) .3)
+      (omega (arith, c .len, c .fits, ap Object.size (the-object l x (c .there)))))
 
   -- ---- 4. Raise
   raise-bytes : (x : Fields) → x .cred .partition < 4
@@ -450,11 +401,11 @@ module _ (M : ℕ) (m : List ℕ) (l : Ledger) (g : Good M m l) where
         arith,
         w .len,
         w .fits,
-        ap Object.size (the-object x (w .there)),
+        ap Object.size (the-object l x (w .there)),
         ap Object.start
-            (the-object x (w .there)),
-        inside (x .cred .partition) (the-held x (w .there) .0)
-            (the-held x (w .there) .2),
+            (the-object l x (w .there)),
+        inside (x .cred .partition) (the-held l x (w .there) .0)
+            (the-held l x (w .there) .2),
       ))
       ∙ g .size
   size-after look x c = g .size

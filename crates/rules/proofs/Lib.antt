@@ -1,5 +1,5 @@
--- The theorems over document 01's definitions. `Demand` has demand 3, `Refusals` demand 1, `Worked` a list of calls
--- computed.
+-- The theorems over document 01's definitions. `Answers` has demand 1, `Demand` demand 3, `Story` the customer's story,
+-- `Worked` a list of calls computed.
 pub mod Answers
 pub mod Gaps
 pub mod Placing
@@ -13,6 +13,11 @@ pub mod Step
 pub mod Known
 pub mod Shown
 pub mod Demand
+pub mod Finds
+pub mod Renewal
+pub mod Passed
+pub mod Versions
+pub mod Story
 pub mod Signed
 pub mod Worked
 pub mod RoundTrip

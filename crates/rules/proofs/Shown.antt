@@ -46,8 +46,9 @@ use Rattle.rules.specs.Operations.{
   resultLength,
   sealed,
 }
+use Rattle.rules.proofs.Bare.{the-held, the-object}
 use Rattle.rules.proofs.Clear.{code, code-of, in-object, is-known, known, read-moves, there}
-use Rattle.rules.proofs.Holds.{Good, held-sound, partition-in-four, quarter-in, the-held, the-object}
+use Rattle.rules.proofs.Holds.{Good, held-sound, partition-in-four, quarter-in}
 use Rattle.rules.proofs.Step.{answer-granted, fresh, fresh-inv, Inv, row-zero, rowOf}
 
 -- the result stands in the reply after its eight-byte head
@@ -63,34 +64,34 @@ read-bytes : (M : ℕ) (m : List ℕ) (l : Ledger) → Good M m l → (x : Field
     × (length (part m (extentStart (quarter M) (tablesOf l) x + x .req .A) (x .req .B)) ≡ x .req .B)
 unfolding extentStart bytesOf
 read-bytes M m l g x e fit = (
-  ap (λ (a : Object). part m (p * quarter M + a .start + x .req .A) (x .req .B)) (the-object M m l g x e)
+  ap (λ (a : Object). part m (p * quarter M + a .start + x .req .A) (x .req .B)) (the-object l x e)
       ∙ sym (part-part m (p * quarter M + h .object .start) (h .object .size) (x .req .A) (x .req .B) fit′ room)
-      ∙ ap (λ (b : List ℕ). part b (x .req .A) (x .req .B)) (g .bytes p h (the-held M m l g x e .2) ∙ sym held),
+      ∙ ap (λ (b : List ℕ). part b (x .req .A) (x .req .B)) (g .bytes p h (the-held l x e .2) ∙ sym held),
   length-part m (p * quarter M + objectOf (tablesOf l) x .start + x .req .A) (x .req .B)
-      (omega (arith, room, fit′, ap Object.start (the-object M m l g x e))),
+      (omega (arith, room, fit′, ap Object.start (the-object l x e))),
 )
   where
     p : ℕ
     p = x .cred .partition
 
     h : Held
-    h = the-held M m l g x e .0
+    h = the-held l x e .0
 
     fit′ : x .req .A + x .req .B ≤ h .object .size
-    fit′ = omega (arith, fit, ap Object.size (the-object M m l g x e))
+    fit′ = omega (arith, fit, ap Object.size (the-object l x e))
 
     room : p * quarter M + h .object .start + h .object .size ≤ length m
     room = omega (
       arith,
-      quarter-in M p (partition-in-four M m l g p h (the-held M m l g x e .2)),
+      quarter-in M p (partition-in-four M m l g p h (the-held l x e .2)),
       held-sound M m l g
-          p h (the-held M m l g x e .2) .inside,
+          p h (the-held l x e .2) .inside,
       g .size,
     )
 
     held : Option·getD (Option·map Held.bytes (find numberOf (x .cred .object) (partitionAt l p .objects))) []
         ≡ h .bytes
-    held = ap (λ (o : Option Held). Option·getD (Option·map Held.bytes o) []) (the-held M m l g x e .1)
+    held = ap (λ (o : Option Held). Option·getD (Option·map Held.bytes o) []) (the-held l x e .1)
 
 both-known : (M : ℕ) (s : State) (l : Ledger) (c : Call) → Inv M s l → answer s c .row ≡ 0 → does c ≡ read
     → (part (s .medium) (extentStart (quarter (fresh s c .size)) (fresh s c .tables) (fields (c .frame)) + fields

@@ -102,7 +102,7 @@ module _ (M : ℕ) (s : State) (l : Ledger) (c : Call) (v : Inv M s l) where
   fresh-inv = refreshed M s l c v
 
   -- ---- a grant
-  the-grant : rowOf s c ≡ 0 → Grant (does c) (quarter M) (tablesOf (clocked (c .clock) l)) (fields (c .frame))
+  pub the-grant : rowOf s c ≡ 0 → Grant (does c) (quarter M) (tablesOf (clocked (c .clock) l)) (fields (c .frame))
   the-grant g =
       let w = fresh-inv in
       subst₂ (λ (n : ℕ) (t : Tables Object). Grant (does c) (quarter n) t (fields (c .frame))) (w .size) (w .tables)

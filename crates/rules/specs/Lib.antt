@@ -8,5 +8,6 @@ pub mod Gate
 pub mod Client
 pub mod Ledger
 pub mod Demands
+pub mod Story
 pub mod Program
 pub mod Cases

@@ -1,0 +1,233 @@
+-- Calls that a ledger is fed by the gate: versions that are there were given, and what one call does to an object's
+-- version and bytes.
+use mathlib.Core.Path.{_∙_, _≡_, ap, refl, subst, subst₂, sym}
+use mathlib.Core.Logic.{_⊎_, inl, inr}
+use mathlib.Core.Bool.{Bool, cond, false, true, true≢false}
+use mathlib.Core.Option.{none, Option·some-injective, Option·some-ne-none, some}
+use mathlib.Core.List.{[], _++_, _∷_, List}
+use Prim.Native.Nat.{_+_, _≤_, suc, zero, ℕ}
+use native.Mathlib.Omega.{arith}
+use lib.ListN.{length}
+use borrow.Author.Tests.{eq-eqb, eqb-true}
+use Rattle.lemmas.specs.Lists.{find, splice}
+use Rattle.lemmas.specs.Tests.{_is_, and-l, and-r, bool-cases, both}
+use Rattle.rules.specs.Demands.{answer, fed, State, step}
+use Rattle.rules.specs.Drive.{format, Partition, partitionAt, unused}
+use Rattle.rules.specs.Frame.{Fields, operation, Operation, operationOf, write}
+use Rattle.rules.specs.Gate.{Call}
+use Rattle.rules.specs.Ledger.{clocked, Fed, feed, Held, Ledger, ledger, start, written}
+use Rattle.rules.specs.Story.{asked, Gives, lastOf, OfEveryList, Renewing, Renews, versionIn, versionOf, writes}
+use Rattle.rules.proofs.Clear.{code-of}
+use Rattle.rules.proofs.Demand.{format-inv}
+use Rattle.rules.proofs.Passed.{Here, here-or-still, Passed, passed, Still}
+use Rattle.rules.proofs.Renewal.{
+  bytes-same,
+  bytes-written,
+  bytesIn,
+  CanRenew,
+  effect,
+  last-next,
+  last-rises,
+  renewed,
+  renewed-or-same,
+}
+use Rattle.rules.proofs.Step.{fedOf, Inv, row-zero, step-inv}
+
+-- every version that is there was given
+abbrev pub Given : Ledger → Type 0
+Given l = (p n v : ℕ) → versionOf l p n ≡ some v → v ≤ lastOf l p
+
+pub record Sane (l : Ledger) : Type 0 where
+  pub four : length (l .partitions) ≡ 4
+  pub given : Given l
+
+unfoldable pub Kept : ℕ → Ledger → List Fed → Type 0
+Kept M l [] = Sane l
+Kept M l (c ∷ cs) = Sane l × (c .row ≡ 0 → Passed l (asked c)) × Kept M (feed M l c) cs
+
+-- versions of object n in partition p are from w on, now and later
+pub record Beyond (w p n : ℕ) (l : Ledger) : Type 0 where
+  pub last : w ≤ lastOf l p + 1
+  pub version : (u : ℕ) → versionOf l p n ≡ some u → w ≤ u
+
+-- ---- one call
+module _ (M : ℕ) (l : Ledger) (c : Fed) (s : Sane l) (ok : c .row ≡ 0 → Passed l (asked c)) where
+  abbrev x : Fields
+  x = asked c
+
+  abbrev now : Ledger
+  now = clocked (c .clock) l
+
+  abbrev next : Ledger
+  next = feed M l c
+
+  at : (p : ℕ) → Here M l c p ⊎ Still M l c p
+  at p = here-or-still M l c p (s .four) ok
+
+  can : (p : ℕ) → Here M l c p → CanRenew (operationOf x) x (partitionAt l p)
+  can p h = subst (λ (r : ℕ). CanRenew (operationOf x) x (partitionAt l r)) (h .partition) (ok (h .granted) .renews)
+
+  -- the last version given
+  pub last-step : (p : ℕ) → lastOf l p ≤ lastOf next p
+  last-step p = go (at p)
+    where
+      go : Here M l c p ⊎ Still M l c p → lastOf l p ≤ lastOf next p
+      go (inl h) = subst (λ (r : Partition Held). lastOf l p ≤ r .last) (sym (h .effect))
+          (last-rises M x now (partitionAt l p) (operationOf x))
+      go (inr h) = subst (λ (r : Partition Held). lastOf l p ≤ r .last) (sym (h .same)) (omega arith)
+
+  pub next-step : (p : ℕ) → Gives p c → lastOf next p ≡ lastOf l p + 1
+  next-step p g = go (at p)
+    where
+      go : Here M l c p ⊎ Still M l c p → lastOf next p ≡ lastOf l p + 1
+      go (inl h) = ap (λ (r : Partition Held). r .last) (h .effect)
+          ∙ last-next M x now (partitionAt l p) (operationOf x) (g .operation)
+      go (inr h) = absurd (h .away (g .granted) (g .partition))
+
+  -- a version is as it was, or the next one
+  abbrev New : ℕ → ℕ → Type 0
+  New p u = (u ≡ lastOf l p + 1) × (lastOf next p ≡ lastOf l p + 1)
+
+  new-here : (p n u : ℕ) → Here M l c p → Renewing (operationOf x) x n → versionOf next p n ≡ some u → New p u
+  new-here p n u h r e =
+      let k = renewed M x now (partitionAt l p) (operationOf x) n u (can p h) r
+      (ap (λ (q : Partition Held). versionIn q n) (sym (h .effect)) ∙ e) in
+      (k .0, ap (λ (q : Partition Held). q .last) (h .effect) ∙ k .1)
+
+  from-step : (p n u : ℕ) → versionOf next p n ≡ some u → (versionOf l p n ≡ some u) ⊎ New p u
+  from-step p n u e = go (at p)
+    where
+      here : Here M l c p → Renewing (operationOf x) x n
+          ⊎ (versionIn (effect (operationOf x) M x now (partitionAt l p)) n ≡ versionOf l p n)
+          → (versionOf l p n ≡ some u) ⊎ New p u
+      here h (inl r) = inr (new-here p n u h r e)
+      here h (inr k) = inl (sym k ∙ ap (λ (q : Partition Held). versionIn q n) (sym (h .effect)) ∙ e)
+
+      go : Here M l c p ⊎ Still M l c p → (versionOf l p n ≡ some u) ⊎ New p u
+      go (inl h) = here h (renewed-or-same M x now (partitionAt l p) (operationOf x) n)
+      go (inr h) = inl (ap (λ (q : Partition Held). versionIn q n) (sym (h .same)) ∙ e)
+
+  pub given-step : Given next
+  given-step p n v e = go (from-step p n v e)
+    where
+      go : (versionOf l p n ≡ some v) ⊎ New p v → v ≤ lastOf next p
+      go (inl k) = omega (arith, s .given p n v k, last-step p)
+      go (inr k) = omega (arith, k .0, k .1)
+
+  pub beyond-step : (w p n : ℕ) → Beyond w p n l → Beyond w p n next
+  beyond-step w p n b = record {
+    last = omega (arith, b .last, last-step p);
+    version = λ u e. go u (from-step p n u e);
+  }
+    where
+      go : (u : ℕ) → (versionOf l p n ≡ some u) ⊎ New p u → w ≤ u
+      go u (inl k) = b .version u k
+      go u (inr k) = omega (arith, b .last, k .0)
+
+  -- a renewal leaves every version given before it behind
+  pub renew-step : (v p n : ℕ) → Renews p n c → v ≤ lastOf l p → Beyond (v + 1) p n next
+  renew-step v p n r h = go (at p)
+    where
+      go : Here M l c p ⊎ Still M l c p → Beyond (v + 1) p n next
+      go (inl k) = record {
+        last = omega (arith, h, last-step p);
+        version = λ u e. omega (arith, h, new-here p n u k (r .object) e .0);
+      }
+      go (inr k) = absurd (k .away (r .granted) (r .partition))
+
+  -- ---- bytes
+  abbrev bytesAt : Ledger → ℕ → ℕ → List ℕ
+  bytesAt k p n = bytesIn (partitionAt k p) n
+
+  -- a granted write to object n of partition p, taken apart
+  abbrev Writes : ℕ → ℕ → Type 0
+  Writes p n = (c .row ≡ 0) × (operationOf x ≡ write) × (x .cred .partition ≡ p) × (x .cred .object ≡ n)
+
+  writes-is : (p n : ℕ) → writes p n c ≡ true → Writes p n
+  unfolding operation
+  writes-is p n e = (
+    eqb-true (c .row) 0 (search (and-l, and-r)),
+    ap operation (eqb-true (x .req .operation) 2 (search (and-l, and-r))),
+    eqb-true (x .cred .partition) p (search (and-l, and-r)),
+    eqb-true (x .cred .object) n (search (and-l, and-r)),
+  )
+
+  is-writes : (p n : ℕ) → Writes p n → writes p n c ≡ true
+  is-writes p n w =
+      both (both (both (eq-eqb (c .row) 0 (w .0))
+      (eq-eqb (x .req .operation) 2 (code-of (x .req .operation) write refl (w .1))))
+      (eq-eqb (x .cred .partition) p (w .2))) (eq-eqb (x .cred .object) n (w .3))
+
+  -- an object that is not renewed changes by the call's write, if it is one to it
+  pub bytes-step : (p n : ℕ) → (Renews p n c → ⊥)
+      → bytesAt next p n ≡ cond (writes p n c) (splice (bytesAt l p n) (x .req .A) (x .payload)) (bytesAt l p n)
+  unfolding effect
+  bytes-step p n r = go (at p) (bool-cases (writes p n c))
+    where
+      wrote : Here M l c p → Writes p n → bytesAt next p n ≡ splice (bytesAt l p n) (x .req .A) (x .payload)
+      wrote h w =
+          ap (λ (q : Partition Held). bytesIn q n) (h .effect)
+          ∙ ap (λ (o : Operation). bytesIn (effect o M x now (partitionAt l p)) n) (w .1)
+          ∙ subst₂ (λ (q k : ℕ). bytesIn (written x (partitionAt l q)) k
+          ≡ splice (bytesAt l q k) (x .req .A) (x .payload)) (w .2) (w .3)
+          (bytes-written x (partitionAt l (x .cred .partition)) (ok (w .0) .writes (w .1)))
+
+      go : Here M l c p ⊎ Still M l c p → (writes p n c ≡ true) ⊎ (writes p n c ≡ false)
+          → bytesAt next p n ≡ cond (writes p n c) (splice (bytesAt l p n) (x .req .A) (x .payload)) (bytesAt l p n)
+      go (inl h) (inl e) = rw e (wrote h (writes-is p n e))
+      go (inl h) (inr e) =
+          rw e (ap (λ (q : Partition Held). bytesIn q n) (h .effect)
+          ∙ bytes-same M x now (partitionAt l p) (operationOf x) n
+          (λ k. r (record { granted = h .granted; partition = h .partition; object = k }))
+          (λ o k. true≢false (sym (is-writes p n (h .granted, o, h .partition, k)) ∙ e)))
+      go (inr h) (inl e) = absurd (h .away (writes-is p n e .0) (writes-is p n e .2))
+      go (inr h) (inr e) = rw e (ap (λ (q : Partition Held). bytesIn q n) (h .same))
+
+-- ---- lists
+pub kept-sane : (M : ℕ) (l : Ledger) (cs : List Fed) → Kept M l cs → Sane l
+unfolding Kept
+kept-sane M l [] k = k
+kept-sane M l (c ∷ cs) k = k .0
+
+pub kept-rest : (M : ℕ) (l : Ledger) (before later : List Fed) → Kept M l (before ++ later)
+    → Kept M (ledger M l before) later
+unfolding Kept ledger
+kept-rest M l [] later k = k
+kept-rest M l (c ∷ cs) later k = kept-rest M (feed M l c) cs later (k .2)
+
+-- what the gate feeds the ledger
+run-kept : (M : ℕ) (s : State) (l : Ledger) (calls : List Call) → Inv M s l → Given l → Kept M l (fed s calls)
+unfolding Kept fed
+run-kept M s l [] v g = record { four = v .good .four; given = g }
+run-kept M s l (c ∷ cs) v g =
+    let sane : Sane l = record { four = v .good .four; given = g } in
+    let ok : answer s c .row ≡ 0 → Passed l (asked (fedOf s c)) = λ r. passed M s l c v (row-zero M s l c v r) in (
+      sane,
+      ok,
+      run-kept M (step s c) (feed M l (fedOf s c)) cs (step-inv M s l c v)
+          (given-step M l (fedOf s c) sane ok),
+    )
+
+-- from a format on
+unused-given : (F n v : ℕ) → versionIn (unused F) n ≡ some v → v ≤ F
+unfolding versionIn find
+unused-given F n v e = go (n is 0) e
+  where
+    go : (b : Bool) → cond b (some F) none ≡ some v → v ≤ F
+    go true k = omega (arith, Option·some-injective F v k)
+    go false k = absurd (Option·some-ne-none v (sym k))
+
+start-given : (F : ℕ) (master drive : List ℕ) → Given (start F master drive)
+unfolding start
+start-given F master drive zero n v e = unused-given F n v e
+start-given F master drive (suc zero) n v e = unused-given F n v e
+start-given F master drive (suc (suc zero)) n v e = unused-given F n v e
+start-given F master drive (suc (suc (suc zero))) n v e = unused-given F n v e
+start-given F master drive (suc (suc (suc (suc p)))) n v e = unused-given 0 n v e
+
+pub all-kept : OfEveryList Kept
+all-kept medium F master drive calls e =
+    run-kept (length medium) (record {
+      drive = format medium F master drive .drive;
+      medium = format medium F master drive .medium;
+    }) (start F master drive) calls (format-inv medium F master drive e) (start-given F master drive)

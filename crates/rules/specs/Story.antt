@@ -1,0 +1,135 @@
+-- The customer's story, "The shape I read belongs to one log", over the calls that a ledger is fed: frames, clock
+-- readings and rows, nothing else. A consequence of demand 3, proved in proofs/: `versions-once`, `one-log`.
+-- c, d, e: calls. p: a partition. n: an object's number, 0 meaning the partition. v: a version. l: a ledger.
+use mathlib.Core.Path.{_≡_}
+use mathlib.Core.Logic.{_⊎_}
+use mathlib.Core.Bool.{_&&_, Bool, cond}
+use mathlib.Core.Option.{Option, Option·map, some}
+use mathlib.Core.List.{[], _++_, _∷_, List, List·Memᴰ}
+use Prim.Native.Nat.{_+_, _≤_, ℕ}
+use lib.ListN.{length}
+use Rattle.lemmas.specs.Lists.{find, splice}
+use Rattle.lemmas.specs.Tests.{_is_}
+use Rattle.rules.specs.Demands.{bytesOf, fed}
+use Rattle.rules.specs.Drive.{format, Partition, partitionAt}
+use Rattle.rules.specs.Frame.{create, delete, Fields, fields, Operation, operationOf, raise}
+use Rattle.rules.specs.Gate.{Call}
+use Rattle.rules.specs.Ledger.{Fed, Held, Ledger, ledger, numberOf, start}
+
+-- what a call asks for
+abbrev pub asked : Fed → Fields
+asked c = fields (c .frame)
+
+-- ---- "Each partition gives versions F, F + 1, .. of its own, each once."
+-- the last version that partition p has given
+abbrev pub lastOf : Ledger → ℕ → ℕ
+lastOf l p = partitionAt l p .last
+
+-- the version of object n in a partition, none where it does not exist; object 0 means the partition
+unfoldable pub versionIn : Partition Held → ℕ → Option ℕ
+versionIn p n =
+    cond (n is 0) (some (p .version))
+    (Option·map (λ (h : Held). h .object .version) (find numberOf n (p .objects)))
+
+abbrev pub versionOf : Ledger → ℕ → ℕ → Option ℕ
+versionOf l p n = versionIn (partitionAt l p) n
+
+-- c is granted and gives a version of partition p: it raises or creates
+pub record Gives (p : ℕ) (c : Fed) : Type 0 where
+  pub granted : c .row ≡ 0
+  pub partition : asked c .cred .partition ≡ p
+  pub operation : (operationOf (asked c) ≡ raise) ⊎ (operationOf (asked c) ≡ create)
+
+-- c is granted and raises, deletes or creates object n of partition p
+abbrev pub Renewing : Operation → Fields → ℕ → Type 0
+Renewing o x n =
+    ((o ≡ raise) × (x .cred .object ≡ n))
+    ⊎ (((o ≡ delete) × (x .cred .object ≡ n))
+    ⊎ ((o ≡ create) × (x .req .A ≡ n)))
+
+pub record Renews (p n : ℕ) (c : Fed) : Type 0 where
+  pub granted : c .row ≡ 0
+  pub partition : asked c .cred .partition ≡ p
+  pub object : Renewing (operationOf (asked c)) (asked c) n
+
+pub record VersionsOnce (M : ℕ) (l : Ledger) (calls : List Fed) : Type 0 where
+  -- the last version given never falls
+  pub rises : (before between later : List Fed) (p : ℕ)
+      → calls ≡ before ++ (between ++ later)
+      → lastOf (ledger M l before) p ≤ lastOf (ledger M l (before ++ between)) p
+  -- each raise and each create gives the next one
+  pub next : (before later : List Fed) (c : Fed) (p : ℕ)
+      → calls ≡ before ++ (c ∷ later)
+      → Gives p c
+      → lastOf (ledger M l (before ++ (c ∷ []))) p ≡ lastOf (ledger M l before) p + 1
+  -- what is there has a version that was given
+  pub given : (before later : List Fed) (p n v : ℕ)
+      → calls ≡ before ++ later
+      → versionOf (ledger M l before) p n ≡ some v
+      → v ≤ lastOf (ledger M l before) p
+  -- and a version once replaced never returns
+  pub once : (before between later : List Fed) (c : Fed) (p n v : ℕ)
+      → calls ≡ before ++ (c ∷ (between ++ later))
+      → versionOf (ledger M l before) p n ≡ some v
+      → Renews p n c
+      → versionOf (ledger M l (before ++ (c ∷ between))) p n ≡ some v → ⊥
+
+-- ---- "A scanner head sends a frame with a credential and writes a log's shape; I send a frame with another
+-- credential and get the shape back": c is granted and reads, writes or looks at (operations 1 to 3) object n of
+-- partition p, with version v in its credential
+pub record Uses (p n v : ℕ) (c : Fed) : Type 0 where
+  pub granted : c .row ≡ 0
+  pub operation : asked c .req .operation ≤ 3
+  pub partition : asked c .cred .partition ≡ p
+  pub object : asked c .cred .object ≡ n
+  pub version : asked c .cred .version ≡ v
+
+-- c is a granted write to object n of partition p
+abbrev pub writes : ℕ → ℕ → Fed → Bool
+writes p n c =
+    c .row is 0
+    && asked c .req .operation is 2
+    && asked c .cred .partition is p
+    && asked c .cred .object is n
+
+-- the bytes b, changed by the granted writes to object n of partition p among these calls, and by nothing else
+unfoldable pub rewritten : ℕ → ℕ → List Fed → List ℕ → List ℕ
+rewritten p n [] b = b
+rewritten p n (c ∷ cs) b =
+    rewritten p n cs (cond (writes p n c) (splice b (asked c .req .A) (asked c .payload)) b)
+
+-- "The shape I read belongs to one log. .. A credential .. that was made for the log before, opens nothing. .. a
+-- version is raised before a log changes hands": where two granted uses c and d name one object and one version, then
+-- from c to d it was the same log. So "an expiry, a version change and a late frame between two parts of one read" end
+-- in a refusal
+pub record OneLog (M : ℕ) (l : Ledger) (calls : List Fed) : Type 0 where
+  -- no grant between them raised, deleted or created that object: one creation of it, in one version
+  pub unbroken : (before between later : List Fed) (c d e : Fed) (p n v : ℕ)
+      → calls ≡ before ++ (c ∷ (between ++ (d ∷ later)))
+      → Uses p n v c
+      → Uses p n v d
+      → List·Memᴰ e between
+      → Renews p n e → ⊥
+  -- every use of it granted between them, so every write too, was under that same version
+  pub same : (before between later : List Fed) (c d e : Fed) (p n v u : ℕ)
+      → calls ≡ before ++ (c ∷ (between ++ (d ∷ later)))
+      → Uses p n v c
+      → Uses p n v d
+      → List·Memᴰ e between
+      → Uses p n u e
+      → u ≡ v
+  -- the bytes that d finds are those that c found, changed by these writes only
+  pub bytes : (before between later : List Fed) (c d : Fed) (p n v : ℕ)
+      → calls ≡ before ++ (c ∷ (between ++ (d ∷ later)))
+      → Uses p n v c
+      → Uses p n v d
+      → bytesOf (ledger M l (before ++ (c ∷ between))) (asked d)
+      ≡ rewritten p n (c ∷ between) (bytesOf (ledger M l before) (asked c))
+
+-- both, for every format that returned row 0 and every list of calls
+abbrev pub OfEveryList : (ℕ → Ledger → List Fed → Type 0) → Type 0
+OfEveryList Claim =
+    (medium : List ℕ) (F : ℕ) (master drive : List ℕ) (calls : List Call)
+    → format medium F master drive .row ≡ 0
+    → Claim (length medium) (start F master drive)
+    (fed (record { drive = format medium F master drive .drive; medium = format medium F master drive .medium }) calls)
