@@ -1,13 +1,16 @@
 -- A chain of calls as the rules see it: what it leaves, returns and feeds the ledger is what document 01's gate does
 -- on the same calls.
-use mathlib.Core.Path.{_∙_, _≡_, ap, refl, subst, sym}
+use mathlib.Core.Path.{_∙_, _≡_, ap, refl, sym}
 use mathlib.Core.List.{[], _++_, _∷_, List, map}
 use Prim.Native.Nat.{ℕ}
 use Rattle.rules.specs.Demands as rules
 use Rattle.rules.specs.Demands.{answer, fed, step}
+use Rattle.rules.specs.Drive.{format}
 use Rattle.rules.specs.Gate.{Call}
 use Rattle.rules.specs.Ledger.{Fed}
-use Rattle.drive.specs.Chain.{after, Chain, Done, fedBy, Granted, Left, leftBy, Met, seen}
+use Rattle.drive.specs.declared.Formatted.{Formatted}
+use Rattle.drive.specs.Met.{FormatMet}
+use Rattle.drive.specs.Chain.{after, Chain, Done, fedBy, Left, leftBy, Met, seen}
 
 -- the calls that were made
 abbrev pub callsOf : List Done → List Call
@@ -49,3 +52,12 @@ pub chain-rest : (s : Left) (before later : List Done) → Chain s (before ++ la
 unfolding after Chain
 chain-rest s [] later k = k
 chain-rest s (c ∷ cs) later k = chain-rest (leftBy c) cs later (k .1)
+
+-- drive and medium of a format
+pub formatted : (medium : List ℕ) (F : ℕ) (master key : List ℕ) (r : Formatted) (zeroed : List ℕ)
+    → FormatMet medium F master key r zeroed
+    → _≡_ {A = rules.State} (record {
+      drive = format medium F master key .drive;
+      medium = format medium F master key .medium;
+    }) (seen (record { drive = r .drive; medium = zeroed }))
+formatted medium F master key r zeroed m = λ i. record { drive = sym (m .drive) i; medium = sym (m .medium) i }

@@ -1,9 +1,8 @@
 -- Demand 1 over the code's own contract: from `GateMet` alone.
-use mathlib.Core.Path.{_∙_, _≡_, subst, sym}
+use mathlib.Core.Path.{_∙_, subst, sym}
 use Prim.Native.Nat.{_≤_, ℕ}
 use Rattle.rules.specs.Demands.{MarkAndOutlived}
 use Rattle.rules.specs.Drive as rules
-use Rattle.rules.specs.Gate.{gate}
 use Rattle.rules.proofs.Answers as rules·proofs
 use Rattle.drive.specs.View.{view}
 use Rattle.drive.specs.Chain.{AllOfDemand1}

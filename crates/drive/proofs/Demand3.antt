@@ -1,21 +1,21 @@
 -- Demand 3 over the code's own contract: from `FormatMet` and `GateMet` alone, by the rules' own demand 3 on the same
 -- calls.
-use mathlib.Core.Path.{_∙_, _≡_, ap, refl, subst, subst₂, sym}
-use mathlib.Core.List.{_++_, _∷_, append-assoc, List, map}
+use mathlib.Core.Path.{_∙_, _≡_, ap, subst, subst₂, sym}
+use mathlib.Core.List.{_++_, _∷_, append-assoc, List}
 use Prim.Native.Nat.{ℕ}
 use lib.ListN.{length}
 use Rattle.lemmas.specs.ListLaws.{map-append}
 use Rattle.lemmas.specs.Lists.{part}
 use Rattle.lemmas.specs.Rows.{firstRow}
 use Rattle.rules.specs.Demands as rules
-use Rattle.rules.specs.Demands.{Agrees, answer, asks, bytesOf, fed, State}
+use Rattle.rules.specs.Demands.{Agrees, answer, asks, bytesOf, State}
 use Rattle.rules.specs.Drive.{format}
 use Rattle.rules.specs.Gate.{Call}
-use Rattle.rules.specs.Ledger.{clocked, Fed, Ledger, ledger, start, tablesOf}
+use Rattle.rules.specs.Ledger.{clocked, Ledger, ledger, start, tablesOf}
 use Rattle.rules.specs.Rows.{bounds}
 use Rattle.rules.proofs.Demand as rules·proofs
-use Rattle.drive.specs.Chain.{after, AllOfDemand3, book, Chain, Demand3, Done, fedBy, Granted, Left, Made, seen}
-use Rattle.drive.proofs.Calls.{callsOf, chain-after, chain-fed, chain-rest, row-met, space-met}
+use Rattle.drive.specs.Chain.{after, AllOfDemand3, book, Chain, Demand3, Done, Granted, Left, seen}
+use Rattle.drive.proofs.Calls.{callsOf, chain-after, chain-fed, chain-rest, formatted, row-met, space-met}
 
 -- the calls of two parts of a list
 calls-append : (before later : List Done) → callsOf (before ++ later) ≡ callsOf before ++ callsOf later
@@ -80,15 +80,7 @@ module _ (M : ℕ) (s : Left) (l : Ledger) (calls : List Done) (k : Chain s call
 
 pub demand3 : AllOfDemand3
 demand3 medium F master key r zeroed calls made =
-    demand (length medium) first (start F master key) calls (made .chain)
-    (subst (λ (u : State). rules.Demand3 (length medium) u (start F master key) (callsOf calls)) same
+    demand (length medium) (record { drive = r .drive; medium = zeroed }) (start F master key) calls (made .chain)
+    (subst (λ (u : State). rules.Demand3 (length medium) u (start F master key) (callsOf calls))
+    (formatted medium F master key r zeroed (made .format))
     (rules·proofs.demand3 medium F master key (callsOf calls) (sym (made .format .row) ∙ made .row)))
-  where
-    first : Left
-    first = record { drive = r .drive; medium = zeroed }
-
-    same : _≡_ {A = State} (record {
-      drive = format medium F master key .drive;
-      medium = format medium F master key .medium;
-    }) (seen first)
-    same = λ i. record { drive = sym (made .format .drive) i; medium = sym (made .format .medium) i }

@@ -4,3 +4,4 @@ pub mod Share
 pub mod Site
 pub mod Met
 pub mod Chain
+pub mod Story
