@@ -14,13 +14,13 @@ use Rattle.lemmas.specs.Lists.{find, missing}
 use Rattle.rules.specs.declared.Object.{Object}
 use Rattle.rules.specs.Demands.{asks, State}
 use Rattle.rules.specs.Drive.{Partition, partitionAt, Tables}
-use Rattle.rules.specs.Frame.{Fields, operationOf, write}
+use Rattle.rules.specs.Frame.{Fields, operationOf, raise, write}
 use Rattle.rules.specs.Gate.{Call}
 use Rattle.rules.specs.Ledger.{clocked, Fed, feed, Held, Ledger, numberOf, tablesOf}
 use Rattle.rules.specs.Operations.{named, present}
 use Rattle.rules.specs.Story.{asked, versionIn, versionOf}
 use Rattle.rules.proofs.Bare.{bare-at, missing-is, the-held, the-object}
-use Rattle.rules.proofs.Clear.{deletes-object, exists, number-free, version-is}
+use Rattle.rules.proofs.Clear.{code-of, deletes-object, exists, number-free, version-is}
 use Rattle.rules.proofs.Renewal.{CanRenew, effect, partition-here, partition-there}
 use Rattle.rules.proofs.Step.{fresh, fresh-inv, Inv, rowOf, the-grant}
 
@@ -55,12 +55,10 @@ pub passed : (M : ℕ) (s : State) (l : Ledger) (c : Call) → Inv M s l → row
 unfolding clocked named
 passed M s l c v g = record {
   partition = the-grant M s l c v g .partition;
-  version = λ h. version-held k x (λ z. now (λ (t : Tables Object). missing (named t x) ≡ false)
-      (exists (s .drive) (s .medium) (c .frame) (c .clock) (c .space) g z))
-      (now (λ (t : Tables Object). x .cred .version ≡ present t x)
-      (version-is (s .drive) (s .medium) (c .frame) (c .clock) (c .space) g h));
+  version = version;
   writes = λ o. missing-is k (x .cred .partition) (x .cred .object) ∙ the-grant M s l c v g .writes o .there;
   renews = record {
+    raises = λ o. version (omega (arith, code-of (x .req .operation) raise refl o));
     creates = λ o. (
       λ z. not-zero (the-grant M s l c v g .creates o .number) z,
       missing-is k (x .cred .partition) (x .req .A) ∙ now (λ (t : Tables Object).
@@ -79,6 +77,13 @@ passed M s l c v g = record {
 
     now : (P : Tables Object → Type 0) → P (fresh s c .tables) → P (tablesOf k)
     now P h = subst P (fresh-inv M s l c v .tables) h
+
+    version : x .req .operation ≤ 6
+        → versionOf l (x .cred .partition) (x .cred .object) ≡ some (x .cred .version)
+    version h = version-held k x (λ z. now (λ (t : Tables Object). missing (named t x) ≡ false)
+        (exists (s .drive) (s .medium) (c .frame) (c .clock) (c .space) g z))
+        (now (λ (t : Tables Object). x .cred .version ≡ present t x)
+        (version-is (s .drive) (s .medium) (c .frame) (c .clock) (c .space) g h))
 
     not-zero : {n : ℕ} → 1 ≤ n → n ≡ 0 → ⊥
     not-zero h z = omega arith

@@ -29,7 +29,7 @@ use Rattle.rules.specs.Ledger.{
   wrote,
 }
 use Rattle.rules.specs.Operations.{startOf}
-use Rattle.rules.specs.Story.{Renewing, versionIn}
+use Rattle.rules.specs.Story.{Giving, Renewing, versionIn}
 use Rattle.rules.proofs.Finds.{
   find-change,
   find-change-other,
@@ -81,34 +81,40 @@ module _ (M : ℕ) (x : Fields) (l : Ledger) where
   partition-there setKey r e = refl
 
 -- ---- raise, delete, create: the object's version afterwards
-raised-version : (n : ℕ) (p : Partition Held) (u : ℕ) → versionIn (raisedHere n p) n ≡ some u → u ≡ p .last + 1
+raised-version : (n w : ℕ) (p : Partition Held) → versionIn p n ≡ some w
+    → versionIn (raisedHere n p) n ≡ some (p .last + 1)
 unfolding versionIn raisedHere
-raised-version n p u = go (n is 0)
+raised-version n w p = go (n is 0)
   where
     v : ℕ
     v = p .last + 1
 
-    of : (o : Option Held) → Option·map (λ (h : Held). h .object .version) (Option·map (heldVersion v) o) ≡ some u
-        → u ≡ v
-    of none e = absurd (Option·some-ne-none u (sym e))
-    of (some h) e = sym (Option·some-injective v u e)
+    of : (o : Option Held) → Option·map (λ (h : Held). h .object .version) o ≡ some w
+        → Option·map (λ (h : Held). h .object .version) (Option·map (heldVersion v) o) ≡ some v
+    of none e = absurd (Option·some-ne-none w (sym e))
+    of (some h) e = refl
 
-    go : (b : Bool) → cond b (some (cond b v (p .version))) (Option·map (λ (h : Held). h .object .version)
-        (find numberOf n (cond b (p .objects) (change numberOf n (heldVersion v) (p .objects))))) ≡ some u → u ≡ v
-    go true e = sym (Option·some-injective v u e)
-    go false e = of (find numberOf n (p .objects))
-        (ap (Option·map (λ (h : Held). h .object .version))
-        (sym (find-change numberOf n (heldVersion v) (λ h. refl) (p .objects))) ∙ e)
+    go : (b : Bool)
+        → cond b (some (p .version)) (Option·map (λ (h : Held). h .object .version) (find numberOf n (p .objects)))
+        ≡ some w
+        → cond b (some (cond b v (p .version))) (Option·map (λ (h : Held). h .object .version)
+        (find numberOf n (cond b (p .objects) (change numberOf n (heldVersion v) (p .objects))))) ≡ some v
+    go true e = refl
+    go false e =
+        ap (Option·map (λ (h : Held). h .object .version))
+        (find-change numberOf n (heldVersion v) (λ h. refl) (p .objects))
+        ∙ of (find numberOf n (p .objects)) e
 
 gone-version : (n : ℕ) (p : Partition Held) (u : ℕ) → (n ≡ 0 → ⊥) → versionIn (gone n p) n ≡ some u → ⊥
 unfolding versionIn gone
 gone-version n p u ne e =
     Option·some-ne-none u (sym e ∙ rw (ne-eqb n 0 ne, find-gone numberOf n (p .objects)) refl)
 
-joined-version : (n size start : ℕ) (p : Partition Held) (u : ℕ) → (n ≡ 0 → ⊥)
-    → missing (find numberOf n (p .objects)) ≡ true → versionIn (joined n size start p) n ≡ some u → u ≡ p .last + 1
+joined-version : (n size start : ℕ) (p : Partition Held) → (n ≡ 0 → ⊥)
+    → missing (find numberOf n (p .objects)) ≡ true → versionIn (joined n size start p) n ≡ some (p .last + 1)
 unfolding versionIn joined
-joined-version n size start p u ne free e = sym (Option·some-injective (p .last + 1) u (sym it ∙ e))
+joined-version n size start p ne free =
+    rw (ne-eqb n 0 ne, find-joined numberOf n new refl (p .objects) free) refl
   where
     new : Held
     new = record {
@@ -116,11 +122,9 @@ joined-version n size start p u ne free e = sym (Option·some-injective (p .last
       bytes = replicate size 0;
     }
 
-    it : versionIn (joined n size start p) n ≡ some (p .last + 1)
-    it = rw (ne-eqb n 0 ne, find-joined numberOf n new refl (p .objects) free) refl
-
--- what a create and a delete that no row refuses have
+-- what a raise, a create and a delete that no row refuses have
 pub record CanRenew (o : Operation) (x : Fields) (p : Partition Held) : Type 0 where
+  pub raises : o ≡ raise → versionIn p (x .cred .object) ≡ some (x .cred .version)
   pub creates : o ≡ create → (x .req .A ≡ 0 → ⊥) × (missing (find numberOf (x .req .A) (p .objects)) ≡ true)
   pub deletes : o ≡ delete → x .cred .object ≡ 0 → ⊥
 
@@ -137,31 +141,37 @@ module _ (M : ℕ) (x : Fields) (l : Ledger) (p : Partition Held) where
   last-rises delete = omega arith
   last-rises setKey = omega arith
 
-  pub last-next : (o : Operation) → (o ≡ raise) ⊎ (o ≡ create) → effect o M x l p .last ≡ p .last + 1
+  pub last-next : (o : Operation) (n : ℕ) → Giving o x n → effect o M x l p .last ≡ p .last + 1
   unfolding effect raisedHere joined
-  last-next o (inl e) = ap (λ (k : Operation). effect k M x l p .last) e
-  last-next o (inr e) = ap (λ (k : Operation). effect k M x l p .last) e
+  last-next o n (inl r) = ap (λ (k : Operation). effect k M x l p .last) (r .0)
+  last-next o n (inr r) = ap (λ (k : Operation). effect k M x l p .last) (r .0)
 
-  -- ---- a renewed object, if it is there, has the next version, and that one is given now
+  -- ---- what is raised or created has the next version
+  pub given-next : (o : Operation) (n : ℕ) → CanRenew o x p → Giving o x n
+      → versionIn (effect o M x l p) n ≡ some (p .last + 1)
+  unfolding effect
+  given-next o n can (inl r) =
+      subst₂ (λ (k : Operation) (i : ℕ). versionIn (effect k M x l p) i ≡ some (p .last + 1)) (sym (r .0)) (r .1)
+      (raised-version (x .cred .object) (x .cred .version) p (can .raises (r .0)))
+  given-next o n can (inr r) =
+      subst₂ (λ (k : Operation) (i : ℕ). versionIn (effect k M x l p) i ≡ some (p .last + 1)) (sym (r .0)) (r .1)
+      (joined-version (x .req .A) (x .req .B) (startOf (quarter M) (tablesOf l) x) p (can .creates (r .0) .0)
+      (can .creates (r .0) .1))
+
+  -- so a renewed object, if it is there, has it, and it is the last one given
   pub renewed : (o : Operation) (n u : ℕ) → CanRenew o x p → Renewing o x n
       → versionIn (effect o M x l p) n ≡ some u → (u ≡ p .last + 1) × (effect o M x l p .last ≡ p .last + 1)
   unfolding effect
-  renewed o n u can (inl r) e = (
-    raised-version (x .cred .object) p u (subst₂ (λ (k : Operation) (i : ℕ). versionIn (effect k M x l p) i ≡ some u)
-        (r .0) (sym (r .1)) e),
-    last-next o (inl (r .0)),
+  renewed o n u can (inl g) e = (
+    sym (Option·some-injective (p .last + 1) u (sym (given-next o n can g) ∙ e)),
+    last-next o n g,
   )
-  renewed o n u can (inr (inl r)) e = absurd (gone-version (x .cred .object) p u (can .deletes (r .0))
+  renewed o n u can (inr r) e = absurd (gone-version (x .cred .object) p u (can .deletes (r .0))
       (subst₂ (λ (k : Operation) (i : ℕ). versionIn (effect k M x l p) i ≡ some u) (r .0) (sym (r .1)) e))
-  renewed o n u can (inr (inr r)) e = (
-    joined-version (x .req .A) (x .req .B) (startOf (quarter M) (tablesOf l) x) p u (can .creates (r .0) .0)
-        (can .creates (r .0) .1)
-        (subst₂ (λ (k : Operation) (i : ℕ). versionIn (effect k M x l p) i ≡ some u) (r .0) (sym (r .1)) e),
-    last-next o (inr (r .0)),
-  )
 
   -- ---- any other keeps its version, and its bytes but for a write
-  same-version : (n : ℕ) {a b : Option ℕ} → a ≡ b → cond (n is 0) (some (p .version)) a ≡ cond (n is 0) (some (p .version)) b
+  same-version : (n : ℕ) {a b : Option ℕ} → a ≡ b
+      → cond (n is 0) (some (p .version)) a ≡ cond (n is 0) (some (p .version)) b
   same-version n e = ap (cond (n is 0) (some (p .version))) e
 
   of-found : {a b : Option Held} → a ≡ b → Option·map (λ (h : Held). h .object .version) a
@@ -211,17 +221,17 @@ module _ (M : ℕ) (x : Fields) (l : Ledger) (p : Partition Held) where
     where
       go : Dec (x .cred .object ≡ n)
           → Renewing raise x n ⊎ (versionIn (raisedHere (x .cred .object) p) n ≡ versionIn p n)
-      go (yes e) = inl (inl (refl, e))
+      go (yes e) = inl (inl (inl (refl, e)))
       go (no e) = inr (raised-other (x .cred .object) n e)
   renewed-or-same create n = go (ℕ-discrete (x .req .A) n)
     where
       go : Dec (x .req .A ≡ n) → Renewing create x n ⊎ (versionIn (effect create M x l p) n ≡ versionIn p n)
-      go (yes e) = inl (inr (inr (refl, e)))
+      go (yes e) = inl (inl (inr (refl, e)))
       go (no e) = inr (same-version n (of-found (find-joined-other numberOf n _ e (p .objects))))
   renewed-or-same delete n = go (ℕ-discrete (x .cred .object) n)
     where
       go : Dec (x .cred .object ≡ n) → Renewing delete x n ⊎ (versionIn (effect delete M x l p) n ≡ versionIn p n)
-      go (yes e) = inl (inr (inl (refl, e)))
+      go (yes e) = inl (inr (refl, e))
       go (no e) = inr (same-version n (of-found (find-kept numberOf (x .cred .object) n e (p .objects))))
   renewed-or-same setKey n = inr refl
 
@@ -229,7 +239,8 @@ module _ (M : ℕ) (x : Fields) (l : Ledger) (p : Partition Held) where
 abbrev pub bytesIn : Partition Held → ℕ → List ℕ
 bytesIn p n = Option·getD (Option·map Held.bytes (find numberOf n (p .objects))) []
 
-found-bytes : {a b : Option Held} → a ≡ b → Option·getD (Option·map Held.bytes a) [] ≡ Option·getD (Option·map Held.bytes b) []
+found-bytes : {a b : Option Held} → a ≡ b
+    → Option·getD (Option·map Held.bytes a) [] ≡ Option·getD (Option·map Held.bytes b) []
 found-bytes e = ap (λ (o : Option Held). Option·getD (Option·map Held.bytes o) []) e
 
 -- the object that is written
@@ -265,7 +276,9 @@ bytes-same M x l p raise n r w = go (x .cred .object is 0)
         ≡ bytesIn p n
     go true = refl
     go false = found-bytes (find-change-other numberOf (x .cred .object) n (heldVersion v) (λ h. refl)
-        (λ e. r (inl (refl, e))) (p .objects))
-bytes-same M x l p create n r w = found-bytes (find-joined-other numberOf n _ (λ e. r (inr (inr (refl, e)))) (p .objects))
-bytes-same M x l p delete n r w = found-bytes (find-kept numberOf (x .cred .object) n (λ e. r (inr (inl (refl, e)))) (p .objects))
+        (λ e. r (inl (inl (refl, e)))) (p .objects))
+bytes-same M x l p create n r w =
+    found-bytes (find-joined-other numberOf n _ (λ e. r (inl (inr (refl, e)))) (p .objects))
+bytes-same M x l p delete n r w =
+    found-bytes (find-kept numberOf (x .cred .object) n (λ e. r (inr (refl, e))) (p .objects))
 bytes-same M x l p setKey n r w = refl

@@ -113,9 +113,9 @@ renews-none p n v c u r = go (r .object)
     x = asked c
 
     go : Renewing (operationOf x) x n → ⊥
-    go (inl k) = omega (arith, u .operation, code-of (x .req .operation) raise refl (k .0))
-    go (inr (inl k)) = omega (arith, u .operation, code-of (x .req .operation) delete refl (k .0))
-    go (inr (inr k)) = omega (arith, u .operation, code-of (x .req .operation) create refl (k .0))
+    go (inl (inl k)) = omega (arith, u .operation, code-of (x .req .operation) raise refl (k .0))
+    go (inl (inr k)) = omega (arith, u .operation, code-of (x .req .operation) create refl (k .0))
+    go (inr k) = omega (arith, u .operation, code-of (x .req .operation) delete refl (k .0))
 
 module _ (M : ℕ) (l : Ledger) (calls : List Fed) (k : Kept M l calls) where
   rest : (before later : List Fed) → calls ≡ before ++ later → Kept M (ledger M l before) later
@@ -127,10 +127,12 @@ module _ (M : ℕ) (l : Ledger) (calls : List Fed) (k : Kept M l calls) where
     rises = λ before between later p q.
         subst (λ (a : Ledger). lastOf (ledger M l before) p ≤ lastOf a p) (sym (ledger-append M l before between))
         (rises-run M (ledger M l before) between later p (rest before (between ++ later) q));
-    next = λ before later c p q g.
+    next = λ before later c p n q g.
         let h = rest before (c ∷ later) q in
-        ap (λ (a : Ledger). lastOf a p) (ledger-append M l before (c ∷ []))
-        ∙ next-step M (ledger M l before) c (h .0) (h .1) p g;
+        let was : ℕ = lastOf (ledger M l before) p in
+        subst (λ (a : Ledger). (lastOf a p ≡ was + 1) × (versionOf a p n ≡ some (was + 1)))
+        (sym (ledger-append M l before (c ∷ [])))
+        (next-step M (ledger M l before) c (h .0) (h .1) p n g);
     given = λ before later p n v q e.
         kept-sane M (ledger M l before) later (rest before later q) .given p n v e;
     once = λ before between later c p n v q e r f.

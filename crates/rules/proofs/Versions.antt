@@ -26,6 +26,7 @@ use Rattle.rules.proofs.Renewal.{
   bytesIn,
   CanRenew,
   effect,
+  given-next,
   last-next,
   last-rises,
   renewed,
@@ -76,12 +77,19 @@ module _ (M : ℕ) (l : Ledger) (c : Fed) (s : Sane l) (ok : c .row ≡ 0 → Pa
           (last-rises M x now (partitionAt l p) (operationOf x))
       go (inr h) = subst (λ (r : Partition Held). lastOf l p ≤ r .last) (sym (h .same)) (omega arith)
 
-  pub next-step : (p : ℕ) → Gives p c → lastOf next p ≡ lastOf l p + 1
-  next-step p g = go (at p)
+  -- what is raised or created has the next one
+  pub next-step : (p n : ℕ) → Gives p n c
+      → (lastOf next p ≡ lastOf l p + 1) × (versionOf next p n ≡ some (lastOf l p + 1))
+  next-step p n g = go (at p)
     where
-      go : Here M l c p ⊎ Still M l c p → lastOf next p ≡ lastOf l p + 1
-      go (inl h) = ap (λ (r : Partition Held). r .last) (h .effect)
-          ∙ last-next M x now (partitionAt l p) (operationOf x) (g .operation)
+      go : Here M l c p ⊎ Still M l c p
+          → (lastOf next p ≡ lastOf l p + 1) × (versionOf next p n ≡ some (lastOf l p + 1))
+      go (inl h) = (
+        ap (λ (r : Partition Held). r .last) (h .effect)
+            ∙ last-next M x now (partitionAt l p) (operationOf x) n (g .object),
+        ap (λ (r : Partition Held). versionIn r n) (h .effect)
+            ∙ given-next M x now (partitionAt l p) (operationOf x) n (can p h) (g .object),
+      )
       go (inr h) = absurd (h .away (g .granted) (g .partition))
 
   -- a version is as it was, or the next one

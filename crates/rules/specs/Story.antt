@@ -34,18 +34,18 @@ versionIn p n =
 abbrev pub versionOf : Ledger → ℕ → ℕ → Option ℕ
 versionOf l p n = versionIn (partitionAt l p) n
 
--- c is granted and gives a version of partition p: it raises or creates
-pub record Gives (p : ℕ) (c : Fed) : Type 0 where
+-- c is granted and raises or creates object n of partition p
+abbrev pub Giving : Operation → Fields → ℕ → Type 0
+Giving o x n = ((o ≡ raise) × (x .cred .object ≡ n)) ⊎ ((o ≡ create) × (x .req .A ≡ n))
+
+pub record Gives (p n : ℕ) (c : Fed) : Type 0 where
   pub granted : c .row ≡ 0
   pub partition : asked c .cred .partition ≡ p
-  pub operation : (operationOf (asked c) ≡ raise) ⊎ (operationOf (asked c) ≡ create)
+  pub object : Giving (operationOf (asked c)) (asked c) n
 
--- c is granted and raises, deletes or creates object n of partition p
+-- c is granted and raises, creates or deletes it
 abbrev pub Renewing : Operation → Fields → ℕ → Type 0
-Renewing o x n =
-    ((o ≡ raise) × (x .cred .object ≡ n))
-    ⊎ (((o ≡ delete) × (x .cred .object ≡ n))
-    ⊎ ((o ≡ create) × (x .req .A ≡ n)))
+Renewing o x n = Giving o x n ⊎ ((o ≡ delete) × (x .cred .object ≡ n))
 
 pub record Renews (p n : ℕ) (c : Fed) : Type 0 where
   pub granted : c .row ≡ 0
@@ -57,11 +57,12 @@ pub record VersionsOnce (M : ℕ) (l : Ledger) (calls : List Fed) : Type 0 where
   pub rises : (before between later : List Fed) (p : ℕ)
       → calls ≡ before ++ (between ++ later)
       → lastOf (ledger M l before) p ≤ lastOf (ledger M l (before ++ between)) p
-  -- each raise and each create gives the next one
-  pub next : (before later : List Fed) (c : Fed) (p : ℕ)
+  -- each raise and each create gives the next one, to the object that it raises or creates
+  pub next : (before later : List Fed) (c : Fed) (p n : ℕ)
       → calls ≡ before ++ (c ∷ later)
-      → Gives p c
-      → lastOf (ledger M l (before ++ (c ∷ []))) p ≡ lastOf (ledger M l before) p + 1
+      → Gives p n c
+      → (lastOf (ledger M l (before ++ (c ∷ []))) p ≡ lastOf (ledger M l before) p + 1)
+      × (versionOf (ledger M l (before ++ (c ∷ []))) p n ≡ some (lastOf (ledger M l before) p + 1))
   -- what is there has a version that was given
   pub given : (before later : List Fed) (p n v : ℕ)
       → calls ≡ before ++ later
@@ -99,9 +100,9 @@ rewritten p n (c ∷ cs) b =
     rewritten p n cs (cond (writes p n c) (splice b (asked c .req .A) (asked c .payload)) b)
 
 -- "The shape I read belongs to one log. .. A credential .. that was made for the log before, opens nothing. .. a
--- version is raised before a log changes hands": where two granted uses c and d name one object and one version, then
--- from c to d it was the same log. So "an expiry, a version change and a late frame between two parts of one read" end
--- in a refusal
+-- version is raised before a log changes hands": where two granted uses c and d name one object and one version, it
+-- was the same log from c to d. So "an expiry, a version change and a late frame between two parts of one read" end in
+-- a refusal
 pub record OneLog (M : ℕ) (l : Ledger) (calls : List Fed) : Type 0 where
   -- no grant between them raised, deleted or created that object: one creation of it, in one version
   pub unbroken : (before between later : List Fed) (c d e : Fed) (p n v : ℕ)
@@ -132,4 +133,5 @@ OfEveryList Claim =
     (medium : List ℕ) (F : ℕ) (master drive : List ℕ) (calls : List Call)
     → format medium F master drive .row ≡ 0
     → Claim (length medium) (start F master drive)
-    (fed (record { drive = format medium F master drive .drive; medium = format medium F master drive .medium }) calls)
+    (fed (record { drive = format medium F master drive .drive; medium = format medium F master drive .medium })
+    calls)
