@@ -184,6 +184,12 @@ module _ (s : Share) (m f space : List ℕ) (c : Credential) (q : ParsedRequest)
   pub room-of : firstRow table ≡ 0 → Room (alone s) m y space
   room-of g = room (alone s) m f space (alone-fresh s (w .fresh)) ready-row zero-row g
 
+  -- the place that was looked for
+  pub placed-is : placeFor (quarter (s .size)) (s .partition .objects) (requestTold q)
+      ≡ cond (y .req .operation isnt 5) none (placeOf (quarter (s .size)) (alone s .tables) y)
+  unfolding placeOf partitionOf
+  placed-is = rw (alone-home s f zero-row, q-is) refl
+
   pub small-size : s .size ≤ largestMedium
   unfolding alone
   small-size = leb-true (s .size) largestMedium (small-of (alone s) (w .sound))
@@ -238,15 +244,35 @@ module _ (s : Share) (seen : Mac) (k m f space : List ℕ) (c : Credential) (q :
   unfolding granted alone
   keys-g = rw (c-g, g .key) (keys-is d m f space q q-g (g .room) start placed-g)
 
+  four-d : length (d .tables .partitions) ≡ 4
+  unfolding alone
+  four-d = refl
+
+  five-d : length (d .memories) ≡ 5
+  unfolding alone
+  five-d = refl
+
+  entry-g : entryOf c (requestTold q) ≡ entry v
+  unfolding entryOf entry
+  entry-g = rw (c-g, q-g) refl
+
   pub partition-g : partitionAfter (q .operation) (c .object) (here .next) (here .place) (partitionOf (s .partition))
       ≡ home (granted d m v space .drive .tables) v
   unfolding granted
   partition-g =
       ap (λ (h : Site). partitionAfter (q .operation) (c .object) (h .next) (h .place) (partitionOf (s .partition))) site-g
-      ∙ rw (c-g, ← alone-home s f zero-g) (partition-is d m f space q q-g (g .room) start placed-g four five (in-five f zero-g))
-    where
-      four : length (d .tables .partitions) ≡ 4
-      four = refl
+      ∙ rw (c-g, ← alone-home s f zero-g) (partition-is d m f space q q-g (g .room) start placed-g four-d five-d (in-five f zero-g))
 
-      five : length (d .memories) ≡ 5
-      five = refl
+  pub memory-g : cond (length (entriesOf (s .memory)) under mostEntries)
+      (entriesOf (s .memory) ++ (entryOf c (requestTold q) ∷ [])) (entriesOf (s .memory))
+      ≡ remembered (granted d m v space .drive) v
+  unfolding granted
+  memory-g = rw (← alone-memory s f zero-g)
+      (memory-is d m f space q q-g (g .room) start placed-g four-d five-d (in-five f zero-g) (entryOf c (requestTold q)) entry-g)
+
+  pub small-g : s .size ≤ largestMedium
+  unfolding alone
+  small-g = g .room .small
+
+  pub four-g : c .partition < 4
+  four-g = subst (λ (h : Credential). h .partition < 4) (sym c-g) (g .room .four)

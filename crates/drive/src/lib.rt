@@ -1,9 +1,12 @@
 // The drive of document 01: its record, format and the gate.
 ghost use mathlib.Core.Path.{_≡_};
+ghost use Rattle.drive.specs.Met.{callOf, FormatMet, GateMet};
 use keyring::Keys;
 use memory::Memory;
 use partition::Partition;
+use wire::Parsed;
 
+mod fresh;
 mod serve;
 
 // Plain data, passed by value and returned. Nothing is asked of a record passed in: row 1 refuses one that is not sound.
@@ -46,3 +49,49 @@ struct Outcome {
     share: Share,
 }
 
+// Puts a frame to the drive at a clock reading: a grant, its reply at the start of `reply`; or one row number.
+pub fn gate(drive: Drive, medium: &mut [u8], frame: &[u8], clock: u64, reply: &mut [u8]) -> Answer
+    ensures { λ r. ⌜ GateMet drive (now (medium .entry)) (callOf (now (frame .entry)) clock (now (reply .entry))) r (now (medium .exit)) (now (reply .exit)) ⌝ }
+{
+    if !fresh::is_ready(drive, medium.len()) {
+        return Answer {
+            row: 1,
+            length: 0,
+            drive: drive,
+        };
+    }
+    let mut d = fresh::refreshed(drive, clock);
+    let parsed = wire::parse(frame);
+    let Parsed::Fields(c, q) = parsed else {
+        return Answer {
+            row: wire::row_of(parsed),
+            length: 0,
+            drive: d,
+        };
+    };
+    let i = c.partition as usize;
+    let k = serve::memory_of(c);
+    let keys = d.keys;
+    let partition = d.partitions[i];
+    let memory = d.memories[k];
+    let share = Share {
+        size: d.size,
+        highwater: d.highwater,
+        keys,
+        partition,
+        memory,
+    };
+    let out = serve::serve(share, medium, frame, reply, c, q);
+    let after = out.share;
+    let keys = after.keys;
+    let partition = after.partition;
+    let memory = after.memory;
+    d.keys = keys;
+    d.partitions[i] = partition;
+    d.memories[k] = memory;
+    Answer {
+        row: out.row,
+        length: out.length,
+        drive: d,
+    }
+}

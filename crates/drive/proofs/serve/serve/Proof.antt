@@ -1,39 +1,135 @@
+-- Row 8, row 9, the judged rows, the grant: each by its law of Serving.
+use mathlib.Core.Path.{_≡_, refl, sym, ap, subst, _∙_}
+use mathlib.Core.Bool.{true, false, cond}
+use mathlib.Core.Option.{Option, none}
+use mathlib.Core.List.{List, _++_}
+use Prim.Native.Nat.{ℕ, _/_, _≤_}
+use native.Mathlib.Omega.{arith}
+use lib.ListN.{length, take}
+use borrow.Author.Tests.{not-true, not-false}
+use Rattle.lemmas.specs.Tests.{_isnt_}
+use Rattle.lemmas.specs.Rows.{firstRow}
+use Rattle.digest.specs.Hmac.{hmac}
+use Rattle.digest.specs.Stream.{Keyed}
+use Rattle.rules.specs.declared.Request.{Request}
+use Rattle.rules.specs.Frame.{fields}
+use Rattle.rules.specs.Drive.{quarter}
+use Rattle.rules.specs.Operations.{credentialKey, placeOf}
+use Rattle.rules.specs.Rows.{driveRows}
+use Rattle.judge.specs.Judge.{placeFor, judgeRows}
+use Rattle.memory.specs.Memory.{entriesOf}
+use Rattle.partition.specs.Partition.{partitionOf}
+use Rattle.placing.specs.Placing.{told}
+use Rattle.wire.specs.Parse.{requestTold}
+use Rattle.drive.specs.Share.{alone}
+use Rattle.drive.proofs.Frames.{long, the-credential, both-records}
+use Rattle.drive.proofs.Serving.{zero-row, eight, nine, from10, credential-key, signing-is, refusal-given, granted-given, room-of, small-size, placed-is}
 use borrow.Author.Needs.{needs}
 use Rattle.drive.proofs.serve.serve.Statement.{statement}
 use Rattle.drive.proofs.serve.serve.Tie as tie
 
+-- past row 8 the key is set
+set-of : (t : tie.Else1) → t .before .before .key-in .result .set ≡ true
+set-of t = not-false (t .before .before .key-in .result .set) (t .if1 .left)
+
+-- the keyed hash has taken credential and request under the credential key
+keyed-of : (t : tie.After-opened)
+    → let a = t .before .before .before .before .before .before .before .before .before .before .before .before .before .before .args in
+    Keyed (t .opened .result) (credentialKey (alone (a .share) .tables .keys) (fields (a .frame .now))) (fields (a .frame .now) .credential ++ fields (a .frame .now) .request)
+keyed-of t =
+    let a = t .before .before .before .before .before .before .before .before .before .before .before .before .before .before .args in
+    let pre = t .before .before .before .before .before .before .before .before .before .before .before .before .before .before .pre in
+    let k = t .before .before .before .before .before .key-in in
+    let f = a .frame .now in
+    let key : hmac (k .result .bytes) (take 36 f) ≡ credentialKey (alone (a .share) .tables .keys) (fields f) =
+    ap (hmac (k .result .bytes)) (the-credential f) ∙ credential-key (a .share) (a .medium .now) (a .frame .now) (a .reply .now) (a .c) (a .q) pre (k .result) (k .ensures) (set-of (t .before .before .before)) in
+    subst (λ (n : List ℕ). Keyed (t .opened .result) (credentialKey (alone (a .share) .tables .keys) (fields f)) n) (both-records f)
+    (subst (λ (n : List ℕ). Keyed (t .opened .result) n (take 64 f)) key (t .opened .ensures))
+
+-- the row that the rules give is the one that was judged
+row-of : (t : tie.After-judge)
+    → let a = t .before .before .before .before .before .before .before .before .before .before .before .before .before .before .before .before .before .before .before .before .args in firstRow (driveRows (alone (a .share)) (fields (a .frame .now)) (a .reply .now)) ≡ t .judge .result
+row-of t =
+    let a = t .before .before .before .before .before .before .before .before .before .before .before .before .before .before .before .before .before .before .before .before .args in
+    let pre = t .before .before .before .before .before .before .before .before .before .before .before .before .before .before .before .before .before .before .before .before .pre in
+    let k = t .before .before .before .before .before .before .before .before .before .before .before .key-in in
+    let g = t .before .before .before .before .before .is-signed in
+    from10 (a .share) (a .medium .now) (a .frame .now) (a .reply .now) (a .c) (a .q) pre (k .result) (k .ensures) (set-of (t .before .before .before .before .before .before .before .before .before)) (g .result) (g .ensures (credentialKey (alone (a .share) .tables .keys) (fields (a .frame .now))) (keyed-of (t .before .before .before .before .before .before)))
+    (not-false (g .result) (t .before .before .before .before .if2 .left))
+    ∙ sym (t .judge .ensures ∙ ap (λ (p : Option ℕ). firstRow (judgeRows (a .share .highwater) (partitionOf (a .share .partition)) (entriesOf (a .share .memory)) (a .c) (requestTold (a .q)) p (length (a .reply .now))))
+    (t .before .place-for .ensures ∙ ap (placeFor (quarter (a .share .size)) (a .share .partition .objects)) (t .before .before .numbers .ensures)))
+
 returns : tie.Need-returns
-returns c = ?
+returns c =
+    let a = c .before .before .before .before .before .before .before .before .before .before .before .before .args in
+    let pre = c .before .before .before .before .before .before .before .before .before .before .before .before .pre in
+    let k = c .before .before .before .key-in in
+    let e = c .refusal .ensures in
+    refusal-given (a .share) (a .medium .now) (a .frame .now) (a .reply .now) (a .c) (a .q) pre (c .refusal .result) 8 (eight (a .share) (a .medium .now) (a .frame .now) (a .reply .now) (a .c) (a .q) pre (k .result) (k .ensures) (not-true (k .result .set) (c .before .if1 .taken)))
+    (λ z. omega arith) (e .0 .0) (e .0 .1) (e .1)
 
 opened-requires : tie.Need-opened-requires
-opened-requires c κs = ?
+opened-requires c κs =
+    let a = c .before .before .before .before .before .before .before .before .before .before .before .before .before .args in
+    let pre = c .before .before .before .before .before .before .before .before .before .before .before .before .before .pre in
+    let l = long (a .frame .now) (zero-row (a .share) (a .medium .now) (a .frame .now) (a .reply .now) (a .c) (a .q) pre) in
+    omega arith
 
 is-signed-requires : tie.Need-is-signed-requires
-is-signed-requires c κs = ?
+is-signed-requires c κs =
+    let a = c .before .before .before .before .before .before .before .before .before .before .before .before .before .before .args in
+    let pre = c .before .before .before .before .before .before .before .before .before .before .before .before .before .before .pre in
+    long (a .frame .now) (zero-row (a .share) (a .medium .now) (a .frame .now) (a .reply .now) (a .c) (a .q) pre)
 
 returns-2 : tie.Need-returns-2
-returns-2 c = ?
+returns-2 c =
+    let a = c .before .before .before .before .before .before .before .before .before .before .before .before .before .before .before .before .before .args in
+    let pre = c .before .before .before .before .before .before .before .before .before .before .before .before .before .before .before .before .before .pre in
+    let k = c .before .before .before .before .before .before .before .before .key-in in
+    let g = c .before .before .is-signed in
+    let e = c .refusal2 .ensures in
+    refusal-given (a .share) (a .medium .now) (a .frame .now) (a .reply .now) (a .c) (a .q) pre (c .refusal2 .result) 9
+    (nine (a .share) (a .medium .now) (a .frame .now) (a .reply .now) (a .c) (a .q) pre (k .result) (k .ensures) (set-of (c .before .before .before .before .before .before)) (g .result) (g .ensures (credentialKey (alone (a .share) .tables .keys) (fields (a .frame .now))) (keyed-of (c .before .before .before))) (not-true (g .result) (c .before .if2 .taken)))
+    (λ z. omega arith) (e .0 .0) (e .0 .1) (e .1)
 
 cast-place-for : tie.Need-cast-place-for
-cast-place-for c = ?
+cast-place-for c =
+    let a = c .before .before .before .before .before .before .before .before .before .before .before .before .before .before .before .before .before .args in
+    let pre = c .before .before .before .before .before .before .before .before .before .before .before .before .before .before .before .before .before .pre in
+    let l = small-size (a .share) (a .medium .now) (a .frame .now) (a .reply .now) (a .c) (a .q) pre in
+    search needs
 
 returns-3 : tie.Need-returns-3
-returns-3 c = ?
+returns-3 c =
+    let a = c .before .before .before .before .before .before .before .before .before .before .before .before .before .before .before .before .before .before .before .before .before .before .args in
+    let pre = c .before .before .before .before .before .before .before .before .before .before .before .before .before .before .before .before .before .before .before .before .before .before .pre in
+    let e = c .refusal3 .ensures in
+    refusal-given (a .share) (a .medium .now) (a .frame .now) (a .reply .now) (a .c) (a .q) pre (c .refusal3 .result) (c .before .before .judge .result) (row-of (c .before .before)) (c .before .if3 .taken) (e .0 .0) (e .0 .1) (e .1)
 
 slice-aggregate-grant : tie.Need-slice-aggregate-grant
 slice-aggregate-grant c = ?
 
 grant-requires : tie.Need-grant-requires
-grant-requires c κs = ?
-
-same-length : tie.Need-same-length
-same-length c = ?
-
-same-length-2 : tie.Need-same-length-2
-same-length-2 c = ?
+grant-requires c κs =
+    let a = c .before .before .before .before .before .before .before .before .before .before .before .before .before .before .before .before .before .before .before .before .before .before .before .before .args in
+    let pre = c .before .before .before .before .before .before .before .before .before .before .before .before .before .before .before .before .before .before .before .before .before .before .before .before .pre in
+    let k = c .before .before .before .before .before .before .before .before .before .before .before .before .before .before .before .key-in in
+    record {
+      parsed = pre .parsed;
+      long = long (a .frame .now) (zero-row (a .share) (a .medium .now) (a .frame .now) (a .reply .now) (a .c) (a .q) pre);
+      room = room-of (a .share) (a .medium .now) (a .frame .now) (a .reply .now) (a .c) (a .q) pre (row-of (c .before .before .before .before) ∙ c .before .before .before .if3 .left);
+      keyed = keyed-of (c .before .before .before .before .before .before .before .before .before .before);
+      key = sym (signing-is (a .share) (a .medium .now) (a .frame .now) (a .reply .now) (a .c) (a .q) pre (k .result) (k .ensures) (set-of (c .before .before .before .before .before .before .before .before .before .before .before .before .before)));
+      place = c .before .before .before .before .before .place-for .ensures ∙ ap (placeFor (quarter (a .share .size)) (a .share .partition .objects)) (c .before .before .before .before .before .before .numbers .ensures) ∙ placed-is (a .share) (a .medium .now) (a .frame .now) (a .reply .now) (a .c) (a .q) pre;
+      few = pre .few;
+      short = pre .short;
+    }
 
 returns-4 : tie.Need-returns-4
-returns-4 c = ?
+returns-4 c =
+    let a = c .before .before .before .before .before .before .before .before .before .before .before .before .before .before .before .before .before .before .before .before .before .before .before .before .before .before .before .before .before .args in
+    let pre = c .before .before .before .before .before .before .before .before .before .before .before .before .before .before .before .before .before .before .before .before .before .before .before .before .before .before .before .before .before .pre in
+    granted-given (a .share) (a .medium .now) (a .frame .now) (a .reply .now) (a .c) (a .q) pre (c .before .before .before .before .grant .result) _ _ (row-of (c .before .before .before .before .before .before .before .before .before) ∙ c .before .before .before .before .before .before .before .before .if3 .left) (c .before .before .before .before .grant .ensures)
 
 pub serve-spec : {M : Type 1} → statement M
 serve-spec =
@@ -41,5 +137,5 @@ serve-spec =
     (tie.spec
     (λ c. search needs) (λ c κs. search needs) (λ c κs. search needs) returns (λ c. search needs) opened-requires
     is-signed-requires (λ c κs. search needs) returns-2 cast-place-for (λ c κs. search needs) (λ c κs. search needs)
-    (λ c κs. search needs) (λ c κs. search needs) returns-3 slice-aggregate-grant grant-requires same-length
-    same-length-2 returns-4)
+    (λ c κs. search needs) (λ c κs. search needs) returns-3 slice-aggregate-grant grant-requires (λ c. search needs)
+    (λ c. search needs) returns-4)

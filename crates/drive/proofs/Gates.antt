@@ -1,0 +1,98 @@
+-- The gate's answers in three steps: row 1, rows 2 to 7, and from row 8 on; and that each of the code's returns meets it.
+use mathlib.Core.Path.{_≡_, refl, sym, ap, subst, _∙_}
+use mathlib.Core.Bool.{Bool, true, false, _&&_, not, cond, true≢false}
+use mathlib.Core.List.{List, [], _++_}
+use Prim.Native.Nat.{ℕ, _≤_}
+use native.Mathlib.Omega.{arith}
+use lib.ListN.{length}
+use borrow.Author.Tests.{eqb-true, eqb-false}
+use Rattle.lemmas.specs.Tests.{_is_, _isnt_}
+use Rattle.lemmas.specs.Lists.{every}
+use Rattle.lemmas.specs.Rows.{line, firstRow, row-here, row-isnt}
+use Rattle.rules.specs.Frame.{Fields, fields}
+use Rattle.rules.specs.Drive as rules
+use Rattle.rules.specs.Drive.{refresh, sound}
+use Rattle.rules.specs.Rows.{row1, frameRows, driveRows, rows}
+use Rattle.rules.specs.Gate as rules·gate
+use Rattle.rules.specs.Gate.{Call, gate, granted, refused, left}
+use Rattle.rules.proofs.Answers.{gate-granted, gate-refused, ready-left}
+use Rattle.rules.proofs.Keeps.{gate-sound}
+use Rattle.wire.specs.Parse.{frameRow}
+use Rattle.drive.specs.declared.Drive.{Drive}
+use Rattle.drive.specs.declared.Answer.{Answer}
+use Rattle.drive.specs.View.{view}
+use Rattle.drive.specs.Share.{admitted}
+use Rattle.drive.specs.Met.{callOf, GateMet}
+use Rattle.drive.proofs.Rows.{past-frame, by-frame}
+
+-- ---- the rules' answer
+module _ (d : rules.Drive) (m f : List ℕ) (clock : ℕ) (space : List ℕ) where
+  abbrev c : Call
+  c = callOf f clock space
+
+  -- row 1
+  pub gate-unready : row1 d m ≡ true → gate d m c ≡ refused 1 d m space
+  unfolding rows
+  gate-unready h =
+      let r : firstRow (rows d m f clock space) ≡ 1 = row-here (line 1 (row1 d m))
+      (frameRows f (fields f) ++ driveRows (refresh clock d) (fields f) space) h in
+      gate-refused d m c (λ z. let k : _≡_ {A = ℕ} 0 1 = sym z ∙ r in omega arith)
+      ∙ ap (λ (n : ℕ). refused n (left n clock d) m space) r
+
+  module _ (ready : row1 d m ≡ false) where
+    -- rows 2 to 7
+    pub gate-framed : (frameRow f ≡ 0 → ⊥) → gate d m c ≡ refused (frameRow f) (refresh clock d) m space
+    gate-framed z =
+        let r : firstRow (rows d m f clock space) ≡ frameRow f = by-frame d m f clock space ready z in
+        gate-refused d m c (λ k. z (sym r ∙ k))
+        ∙ ap (λ (e : rules.Drive). refused (firstRow (rows d m f clock space)) e m space) (ready-left d m c ready)
+        ∙ ap (λ (n : ℕ). refused n (refresh clock d) m space) r
+
+    -- row 8 and on
+    pub gate-admitted : frameRow f ≡ 0 → gate d m c ≡ admitted (refresh clock d) m (fields f) space
+    unfolding admitted
+    gate-admitted z = go (firstRow later is 0) refl
+      where
+        later : _
+        later = driveRows (refresh clock d) (fields f) space
+
+        r : firstRow (rows d m f clock space) ≡ firstRow later
+        r = past-frame d m f clock space ready z
+
+        go : (b : Bool) → (firstRow later is 0) ≡ b → gate d m c
+            ≡ cond b (granted (refresh clock d) m (fields f) space) (refused (firstRow later) (refresh clock d) m space)
+        go true h = gate-granted d m c (r ∙ eqb-true (firstRow later) 0 h)
+        go false h =
+            gate-refused d m c (λ k. eqb-false (firstRow later) 0 h (sym r ∙ k))
+            ∙ ap (λ (e : rules.Drive). refused (firstRow (rows d m f clock space)) e m space) (ready-left d m c ready)
+            ∙ ap (λ (n : ℕ). refused n (refresh clock d) m space) r
+
+-- ---- none of rows 2 on is row 1
+pub frame-not-1 : (f : List ℕ) → frameRow f ≡ 1 → ⊥
+unfolding frameRow frameRows every
+frame-not-1 f e = eqb-false (frameRow f) 1 (row-isnt 1 (frameRows f (fields f)) refl refl) e
+
+pub drive-not-1 : (d : rules.Drive) (m : List ℕ) (x : Fields) (space : List ℕ) → admitted d m x space .row ≡ 1 → ⊥
+unfolding admitted driveRows every granted
+drive-not-1 d m x space e = go (firstRow (driveRows d x space) is 0) e
+  where
+    go : (b : Bool) → cond b (granted d m x space) (refused (firstRow (driveRows d x space)) d m space) .row ≡ 1 → ⊥
+    go true k = let z : _≡_ {A = ℕ} 0 1 = k in omega arith
+    go false k = eqb-false (firstRow (driveRows d x space)) 1 (row-isnt 1 (driveRows d x space) refl refl) k
+
+-- ---- a return of the code that is the rules' answer a meets the promise
+pub meets : (d : Drive) (m : List ℕ) (c : Call) (r : Answer) (after replied : List ℕ) (a : rules·gate.Answer)
+    → gate (view d) m c ≡ a → r .row ≡ a .row → r .length ≡ a .length → view (r .drive) ≡ a .drive
+    → (r .row ≡ 1 → r .drive ≡ d) → after ≡ a .medium → replied ≡ a .space → GateMet d m c r after replied
+meets d m c r after replied a g row length drive unchanged medium space = record {
+  row = row ∙ sym (ap (λ (b : rules·gate.Answer). b .row) g);
+  length = length ∙ sym (ap (λ (b : rules·gate.Answer). b .length) g);
+  drive = whole;
+  unchanged = unchanged;
+  medium = medium ∙ sym (ap (λ (b : rules·gate.Answer). b .medium) g);
+  space = space ∙ sym (ap (λ (b : rules·gate.Answer). b .space) g);
+  sound = λ h. ap sound whole ∙ gate-sound (view d) m c h;
+}
+  where
+    whole : view (r .drive) ≡ gate (view d) m c .drive
+    whole = drive ∙ sym (ap (λ (b : rules·gate.Answer). b .drive) g)

@@ -1,0 +1,210 @@
+-- The share that the gate takes out of a drive, and the drive with an outcome put back: the last step of `gate`.
+use mathlib.Core.Path.{_≡_, refl, sym, ap, subst, _∙_}
+use mathlib.Core.Bool.{Bool, true, false, _&&_, _||_, not, cond}
+use mathlib.Core.List.{List, [], _∷_, map}
+use Prim.Native.Nat.{ℕ, _≤_, _<_}
+use native.Mathlib.Omega.{arith}
+use lib.Dec.{leb}
+use lib.ListN.{length, getD, set, replicate}
+use borrow.Author.Tests.{leb-true, eq-eqb}
+use Rattle.lemmas.specs.Tests.{_is_, _isnt_, both}
+use Rattle.lemmas.specs.Lists.{every, keep, update}
+use Rattle.lemmas.specs.ListLaws.{nth-map, every-nth, every-kept, every-imp, set-update}
+use Rattle.rules.specs.declared.Entry.{Entry}
+use Rattle.rules.specs.declared.Object.{Object}
+use Rattle.rules.specs.declared.Credential.{Credential}
+use Rattle.rules.specs.Frame.{Fields, fields, memory}
+use Rattle.rules.specs.Drive as rules
+use Rattle.rules.specs.Drive.{
+  quarter,
+  lives,
+  mostObjects,
+  mostEntries,
+  newHighWater,
+  refresh,
+  sound,
+  soundPartition,
+  unused,
+}
+use Rattle.rules.specs.Operations.{home}
+use Rattle.rules.specs.Rows.{row1, remembered}
+use Rattle.rules.specs.Gate as rules·gate
+use Rattle.rules.proofs.Keeps.{refresh-sound, small-of, tables-of, memories-of}
+use Rattle.rules.proofs.Sound.{at-sound}
+use Rattle.rules.proofs.Memories.{short as short-list}
+use Rattle.wire.specs.declared.ParsedRequest.{ParsedRequest}
+use Rattle.wire.specs.declared.Parsed.the-variants.{Fields as Parsed·Fields}
+use Rattle.wire.specs.Parse.{frameRow, told, parseOf}
+use Rattle.wire.specs.ParseLaws.{fields-told}
+use Rattle.keyring.specs.View.{keysOf}
+use Rattle.memory.specs.declared.Memory.{Memory}
+use Rattle.memory.specs.Memory.{entriesOf, noEntry}
+use Rattle.partition.specs.declared.Partition.{Partition}
+use Rattle.partition.specs.Padded.{padded, padded-is}
+use Rattle.partition.specs.Partition.{partitionOf, viewed, viewed-is}
+use Rattle.drive.specs.declared.Drive.{Drive}
+use Rattle.drive.specs.declared.Answer.{Answer}
+use Rattle.drive.specs.declared.Share.{Share}
+use Rattle.drive.specs.declared.Outcome.{Outcome}
+use Rattle.drive.specs.View.{view, entered, few, short, Counted}
+use Rattle.drive.specs.Share.{alone, admitted, Ready, Given}
+use Rattle.drive.specs.Met.{callOf, GateMet}
+use Rattle.drive.proofs.Frames.{in-four, in-five}
+use Rattle.drive.proofs.Serving.{alone-home, alone-memory}
+use Rattle.drive.proofs.Whole.{putBack, backIn, admitted-back}
+use Rattle.drive.proofs.Gates.{gate-admitted, drive-not-1, meets}
+
+-- what stands past the end of the drive's arrays
+abbrev pub noPartition : Partition
+noPartition = record { version = 0; last = 0; objects = record { items = []; count = 0 } }
+
+abbrev pub noMemory : Memory
+noMemory = record { entries = []; count = 0 }
+
+-- ---- row 1's test as the code makes it
+pub ready-row1 : (d : rules.Drive) (m : List ℕ) (b : Bool) → b ≡ (sound d && length m is d .size) → row1 d m ≡ not b
+unfolding row1
+ready-row1 d m b e = go (sound d) (length m is d .size) ∙ ap not (sym e)
+  where
+    go : (a c : Bool) → (not a || not c) ≡ not (a && c)
+    go true c = refl
+    go false c = refl
+
+-- a filter's second pass finds nothing to drop
+keep-again : (t : Entry → Bool) (l : List Entry) → keep t (keep t l) ≡ keep t l
+unfolding keep
+keep-again t [] = refl
+keep-again t (e ∷ l) = go (t e) refl (keep-again t l)
+  where
+    go : (b : Bool) → t e ≡ b → keep t (keep t l) ≡ keep t l → keep t (cond b (e ∷ keep t l) (keep t l))
+        ≡ cond b (e ∷ keep t l) (keep t l)
+    go true k ih = rw k (ap (λ (r : List Entry). e ∷ r) ih)
+    go false k ih = ih
+
+-- d₀: the drive lent. d: the drive at the clock reading
+module _ (d₀ d : Drive) (clock : ℕ) (v : view d ≡ refresh clock (view d₀)) (counted : Counted d)
+    (whole : sound (view d₀) ≡ true) (m f : List ℕ) (size : length m ≡ d₀ .size) (c : Credential) (q : ParsedRequest)
+    (parsed : told (Parsed·Fields c q) ≡ parseOf f) where
+  abbrev x : Fields
+  x = fields f
+
+  zero : frameRow f ≡ 0
+  zero = fields-told f c q parsed .0 .0
+
+  abbrev part : Partition
+  part = getD (d .partitions) (x .cred .partition) noPartition
+
+  abbrev mem : Memory
+  mem = getD (d .memories) (memory x) noMemory
+
+  abbrev share : Share
+  share = record {
+    size = d .size;
+    highwater = d .highwater;
+    keys = d .keys;
+    partition = part;
+    memory = mem;
+  }
+
+  few-part : part .objects .count ≤ mostObjects
+  few-part = leb-true (part .objects .count) mostObjects
+      (every-nth few (d .partitions) (x .cred .partition) noPartition refl (counted .objects))
+
+  short-mem : mem .count ≤ mostEntries
+  short-mem = leb-true (mem .count) mostEntries (every-nth short (d .memories) (memory x) noMemory refl (counted .entries))
+
+  -- ---- the share is the frame's own part of the drive
+  home-is : home (view d .tables) x ≡ partitionOf part
+  unfolding view viewed padded
+  home-is = nth-map viewed (d .partitions) (x .cred .partition) noPartition ∙ viewed-is part few-part
+
+  held-is : remembered (view d) x ≡ entriesOf mem
+  unfolding view remembered entered padded
+  held-is = nth-map entered (d .memories) (memory x) noMemory
+      ∙ padded-is mostEntries noEntry (mem .count) (mem .entries) short-mem
+
+  sound-d : sound (view d) ≡ true
+  sound-d = ap sound v ∙ refresh-sound clock (view d₀) whole
+
+  sound-part : soundPartition (quarter (d .size)) (partitionOf part) ≡ true
+  unfolding view
+  sound-part = ap (soundPartition (quarter (d .size))) (sym home-is)
+      ∙ at-sound (quarter (view d .size)) (view d .tables) (x .cred .partition) (tables-of (view d) sound-d)
+
+  sound-mem : leb (length (entriesOf mem)) mostEntries ≡ true
+  unfolding remembered
+  sound-mem = ap (λ (l : List Entry). leb (length l) mostEntries) (sym held-is)
+      ∙ every-nth short-list (view d .memories) (memory x) [] refl (memories-of (view d) sound-d)
+
+  sound-share : sound (alone share) ≡ true
+  unfolding sound alone every view
+  sound-share = rw (small-of (view d) sound-d, sound-part, sound-mem) refl
+
+  fresh-share : keep (lives (d .highwater)) (entriesOf mem) ≡ entriesOf mem
+  unfolding remembered refresh view
+  fresh-share =
+      let mark : d .highwater ≡ newHighWater (d₀ .highwater) clock = ap (λ (e : rules.Drive). e .tables .highWater) v in
+      let l : List Entry = getD (view d₀ .memories) (memory x) [] in
+      let held : entriesOf mem ≡ keep (lives (newHighWater (d₀ .highwater) clock)) l =
+      sym held-is ∙ ap (λ (e : rules.Drive). getD (e .memories) (memory x) []) v
+      ∙ nth-map (keep (lives (newHighWater (d₀ .highwater) clock))) (view d₀ .memories) (memory x) [] in
+      rw (mark, held) (keep-again (lives (newHighWater (d₀ .highwater) clock)) l)
+
+  pub ready : Ready share m f c q
+  unfolding view refresh
+  ready = record {
+    parsed = parsed;
+    size = size ∙ sym (ap (λ (e : rules.Drive). e .size) v);
+    sound = sound-share;
+    fresh = fresh-share;
+    few = few-part;
+    short = short-mem;
+  }
+
+  -- ---- the outcome put back
+  module _ (space : List ℕ) (out : Outcome) (after replied : List ℕ)
+      (given : Given (admitted (alone share) m x space) x out after replied) where
+    abbrev back : Drive
+    back = record {
+      size = d .size;
+      highwater = d .highwater;
+      keys = out .share .keys;
+      partitions = set (d .partitions) (x .cred .partition) (out .share .partition);
+      memories = set (d .memories) (memory x) (out .share .memory);
+    }
+
+    abbrev a : rules·gate.Answer
+    a = admitted (alone share) m x space
+
+    back-is : view back ≡ putBack (view d) x (a .drive)
+    unfolding view entered
+    back-is =
+        let p : viewed (out .share .partition) ≡ home (a .drive .tables) x =
+        viewed-is (out .share .partition) (given .few) ∙ given .partition in
+        let n : entered (out .share .memory) ≡ remembered (a .drive) x =
+        padded-is mostEntries noEntry (out .share .memory .count) (out .share .memory .entries) (given .short)
+        ∙ given .memory in
+        rw (
+          set-update viewed (d .partitions) (x .cred .partition) (out .share .partition) (home (a .drive .tables) x) p,
+          set-update entered (d .memories) (memory x) (out .share .memory) (remembered (a .drive) x) n,
+          given .keys,
+        ) refl
+
+    whole-is : admitted (view d) m x space ≡ backIn (view d) x a
+    unfolding alone view
+    whole-is = admitted-back (view d) (alone share) x refl refl refl
+        (alone-home share f zero ∙ sym home-is) (alone-memory share f zero ∙ sym held-is) refl (in-four f zero) refl
+        (in-five f zero) m space
+
+    row1-no : row1 (view d₀) m ≡ false
+    unfolding view row1
+    row1-no = ready-row1 (view d₀) m true (rw (whole, eq-eqb (length m) (d₀ .size) size) refl)
+
+    pub met : GateMet d₀ m (callOf f clock space) (record { row = out .row; length = out .length; drive = back }) after
+        replied
+    met = meets d₀ m (callOf f clock space) (record { row = out .row; length = out .length; drive = back }) after replied
+        (backIn (view d) x a)
+        (gate-admitted (view d₀) m f clock space row1-no zero ∙ ap (λ (e : rules.Drive). admitted e m x space) (sym v) ∙ whole-is)
+        (given .row) (given .length) back-is
+        (λ k. absurd (drive-not-1 (alone share) m x space (sym (given .row) ∙ k)))
+        (given .medium) (given .space)

@@ -1,0 +1,102 @@
+// Row 1, and what every call does first: the mark rises, outlived entries go.
+ghost use mathlib.Core.Path.{_≡_};
+ghost use mathlib.Core.Bool.{true, _&&_};
+ghost use mathlib.Core.List.{map};
+ghost use Prim.Native.Nat.{max};
+ghost use lib.ListN.{length};
+ghost use lib.Dec.{leb};
+ghost use Rattle.lemmas.specs.Lists.{every, keep};
+ghost use Rattle.lemmas.specs.Tests.{_is_};
+ghost use Rattle.rules.specs.Drive.{mostEntries, soundPartition, sound, refresh, lives};
+ghost use Rattle.partition.specs.Partition.{viewed};
+ghost use Rattle.drive.specs.View.{entered, view, few, short, Counted};
+use memory::Memory;
+use partition::Partition;
+use super::Drive;
+
+// Whether every partition is sound; and then no count passes its array.
+fn sound_partitions(ps: [Partition; 4], quarter: u32) -> bool
+    ensures { λ r. ⌜ (r ≡ every (soundPartition quarter) (map viewed ps)) × (r ≡ true → every few ps ≡ true) ⌝ }
+{
+    let mut r = true;
+    let mut i = 0;
+    while i < 4 {
+        let p = ps[i];
+        r = r & partition::sound_partition(p, quarter);
+        i += 1;
+    }
+    r
+}
+
+// Whether a memory has at most 64 entries.
+fn is_short(m: Memory) -> bool
+    ensures { λ r. ⌜ (r ≡ leb (length (entered m)) mostEntries) × (r ≡ short m) ⌝ }
+{
+    m.count <= 64
+}
+
+// Whether every memory has at most 64 entries.
+fn short_memories(ms: [Memory; 5]) -> bool
+    ensures { λ r. ⌜ (r ≡ every (λ l. leb (length l) mostEntries) (map entered ms)) × (r ≡ every short ms) ⌝ }
+{
+    let mut r = true;
+    let mut i = 0;
+    while i < 5 {
+        let m = ms[i];
+        r = r & is_short(m);
+        i += 1;
+    }
+    r
+}
+
+// Whether row 1 does not apply: the record is sound, and a medium of n bytes is its own.
+pub fn is_ready(d: Drive, n: usize) -> bool
+    ensures { λ r. ⌜ (r ≡ (sound (view d) && n is d .size)) × (r ≡ true → Counted d) ⌝ }
+{
+    if d.size > 16777216 {
+        return false;
+    }
+    let ps = d.partitions;
+    let ms = d.memories;
+    let quarter = (d.size / 4) as u32;
+    sound_partitions(ps, quarter) & short_memories(ms) & (n == d.size)
+}
+
+// The later of two times.
+fn later(a: u64, b: u64) -> u64
+    ensures { λ r. ⌜ r ≡ max a b ⌝ }
+{
+    if a < b { b } else { a }
+}
+
+// The memories without outlived entries. One that has none is not written.
+fn purged(ms: [Memory; 5], mark: u64) -> [Memory; 5]
+    requires { ⌜ every short ms ≡ true ⌝ }
+    ensures { λ r. ⌜ (map entered r ≡ map (keep (lives mark)) (map entered ms)) × (every short r ≡ true) × (length r ≡ 5) ⌝ }
+{
+    let mut r = ms;
+    let mut i = 0;
+    while i < 5 {
+        let k = i;
+        let m = ms[k];
+        i += 1;
+        if memory::stale(m, mark) {
+            r[k] = memory::purged(m, mark);
+        }
+    }
+    r
+}
+
+// The drive at a clock reading: the mark is the later one, outlived entries are gone.
+pub fn refreshed(d: Drive, clock: u64) -> Drive
+    requires { ⌜ Counted d ⌝ }
+    ensures { λ r. ⌜ (view r ≡ refresh clock (view d)) × Counted r ⌝ }
+{
+    let mark = later(d.highwater, clock);
+    let ms = d.memories;
+    let fresh = purged(ms, mark);
+    let mut r = d;
+    r.highwater = mark;
+    r.memories = fresh;
+    r
+}
