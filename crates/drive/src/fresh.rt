@@ -10,9 +10,9 @@ ghost use Rattle.lemmas.specs.Tests.{_is_};
 ghost use Rattle.rules.specs.Drive.{mostEntries, soundPartition, sound, refresh, lives};
 ghost use Rattle.partition.specs.Partition.{viewed};
 ghost use Rattle.drive.specs.View.{entered, view, few, short, Counted};
+use super::Drive;
 use memory::Memory;
 use partition::Partition;
-use super::Drive;
 
 // Whether every partition is sound; and then no count passes its array.
 fn sound_partitions(ps: [Partition; 4], quarter: u32) -> bool

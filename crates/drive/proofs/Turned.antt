@@ -1,0 +1,99 @@
+-- A loop that changes an array's elements in place, seen through a view of them; and memories and partitions whose
+-- count is within their array.
+use mathlib.Core.Path.{_≡_, refl, sym, ap, _∙_}
+use mathlib.Core.Bool.{Bool, true, _&&_}
+use mathlib.Core.List.{List, [], _∷_, map}
+use Prim.Native.Nat.{ℕ, zero, suc, _+_, _≤_, _<_}
+use native.Mathlib.Nat.{not-suc-le-zero, le-of-suc-le-suc}
+use native.Mathlib.Numerals.{add-one}
+use native.Mathlib.Omega.{arith}
+use lib.ListN.{length, getD, set, length-map}
+use borrow.Author.Tests.{leb-true}
+use Rattle.lemmas.specs.Tests.{and-l, and-r, both}
+use Rattle.lemmas.specs.Lists.{every, update}
+use Rattle.lemmas.specs.ListLaws.{every-nth, nth-map, set-update}
+use Rattle.rules.specs.Drive.{mostEntries}
+use Rattle.memory.specs.declared.Memory.{Memory}
+use Rattle.memory.specs.Memory.{entriesOf, noEntry}
+use Rattle.partition.specs.declared.Partition.{Partition}
+use Rattle.partition.specs.Padded.{padded-is, padded-length}
+use Rattle.drive.specs.View.{entered, short}
+
+-- what stands past the end of an array
+abbrev pub noMemory : Memory
+noMemory = record { entries = []; count = 0 }
+
+abbrev pub noPartition : Partition
+noPartition = record { version = 0; last = 0; objects = record { items = []; count = 0 } }
+
+module _ {A : Type 0} where
+  -- f applied to the first i elements
+  unfoldable pub turned : (A → A) → ℕ → List A → List A
+  turned f zero l = l
+  turned f (suc i) [] = []
+  turned f (suc i) (x ∷ xs) = f x ∷ turned f i xs
+
+  pub turned-all : (f : A → A) (i : ℕ) (l : List A) → length l ≤ i → turned f i l ≡ map f l
+  unfolding turned
+  turned-all f zero [] h = refl
+  turned-all f zero (x ∷ xs) h = absurd (not-suc-le-zero h)
+  turned-all f (suc i) [] h = refl
+  turned-all f (suc i) (x ∷ xs) h = ap (λ ys. f x ∷ ys) (turned-all f i xs (le-of-suc-le-suc h))
+
+  -- one more
+  pub turned-set : (f : A → A) (l : List A) (i : ℕ) (d : A) → i < length l
+      → update i (λ (old : A). f (getD l i d)) (turned f i l) ≡ turned f (suc i) l
+  unfolding turned update
+  turned-set f [] i d h = absurd (not-suc-le-zero h)
+  turned-set f (x ∷ xs) zero d h = refl
+  turned-set f (x ∷ xs) (suc i) d h = ap (λ ys. f x ∷ ys) (turned-set f xs i d (le-of-suc-le-suc h))
+
+  pub turned-kept : (f : A → A) (l : List A) (i : ℕ) (d : A) → i < length l → f (getD l i d) ≡ getD l i d
+      → turned f i l ≡ turned f (suc i) l
+  unfolding turned
+  turned-kept f [] i d h e = absurd (not-suc-le-zero h)
+  turned-kept f (x ∷ xs) zero d h e = ap (λ y. y ∷ xs) (sym e)
+  turned-kept f (x ∷ xs) (suc i) d h e = ap (λ ys. f x ∷ ys) (turned-kept f xs i d (le-of-suc-le-suc h) e)
+
+  pub every-set : (t : A → Bool) (l : List A) (i : ℕ) (x : A) → t x ≡ true → every t l ≡ true
+      → every t (set l i x) ≡ true
+  unfolding every
+  every-set t [] i x e h = h
+  every-set t (y ∷ l) zero x e h = both e (and-r (t y) (every t l) h)
+  every-set t (y ∷ l) (suc i) x e h =
+      both (and-l (t y) (every t l) h) (every-set t l i x e (and-r (t y) (every t l) h))
+
+module _ {A B : Type 0} where
+  pub every-mapped : (t : B → Bool) (f : A → B) (l : List A) → every (λ (a : A). t (f a)) l ≡ every t (map f l)
+  unfolding every
+  every-mapped t f [] = refl
+  every-mapped t f (x ∷ xs) = ap (λ b. t (f x) && b) (every-mapped t f xs)
+
+  -- element i of rs becomes x, or stays as it is
+  pub turn-set : (e : A → B) (g : B → B) (l rs : List A) (i : ℕ) (d x : A) → i < length l
+      → e x ≡ g (e (getD l i d)) → map e rs ≡ turned g i (map e l) → map e (set rs i x) ≡ turned g (i + 1) (map e l)
+  turn-set e g l rs i d x h p q =
+      let old : B = getD (map e l) i (e d) in
+      let at : old ≡ e (getD l i d) = nth-map e l i d in
+      let long : length (map e l) ≡ length l = length-map l e in
+      rw (add-one, set-update e rs i x (g old) (p ∙ ap g (sym at)), q) (turned-set g (map e l) i (e d) (omega arith))
+
+  pub turn-kept : (e : A → B) (g : B → B) (l rs : List A) (i : ℕ) (d : A) → i < length l
+      → g (e (getD l i d)) ≡ e (getD l i d) → map e rs ≡ turned g i (map e l) → map e rs ≡ turned g (i + 1) (map e l)
+  turn-kept e g l rs i d h p q =
+      let at : getD (map e l) i (e d) ≡ e (getD l i d) = nth-map e l i d in
+      let long : length (map e l) ≡ length l = length-map l e in
+      rw add-one (q ∙ turned-kept g (map e l) i (e d) (omega arith) (ap g at ∙ p ∙ sym at))
+
+-- ---- a memory of at most 64 entries
+pub entered-is : (m : Memory) → m .count ≤ mostEntries → entered m ≡ entriesOf m
+unfolding entered
+entered-is m h = padded-is mostEntries noEntry (m .count) (m .entries) h
+
+pub entered-length : (m : Memory) → length (m .entries) ≡ mostEntries → length (entered m) ≡ m .count
+unfolding entered
+entered-length m h = padded-length mostEntries noEntry (m .count) (m .entries) h
+
+-- one of a list of such memories
+pub short-nth : (ms : List Memory) (i : ℕ) → every short ms ≡ true → getD ms i noMemory .count ≤ mostEntries
+short-nth ms i h = leb-true (getD ms i noMemory .count) mostEntries (every-nth short ms i noMemory refl h)
