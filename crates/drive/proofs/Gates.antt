@@ -8,7 +8,7 @@ use lib.ListN.{length}
 use borrow.Author.Tests.{eqb-true, eqb-false}
 use Rattle.lemmas.specs.Tests.{_is_, _isnt_}
 use Rattle.lemmas.specs.Lists.{every}
-use Rattle.lemmas.specs.Rows.{line, firstRow, row-here, row-isnt}
+use Rattle.lemmas.specs.Rows.{Row, line, firstRow, row-here, row-isnt}
 use Rattle.rules.specs.Frame.{Fields, fields}
 use Rattle.rules.specs.Drive as rules
 use Rattle.rules.specs.Drive.{refresh, sound}
@@ -53,7 +53,7 @@ module _ (d : rules.Drive) (m f : List ℕ) (clock : ℕ) (space : List ℕ) whe
     unfolding admitted
     gate-admitted z = go (firstRow later is 0) refl
       where
-        later : _
+        later : List Row
         later = driveRows (refresh clock d) (fields f) space
 
         r : firstRow (rows d m f clock space) ≡ firstRow later

@@ -83,9 +83,9 @@ name-of Delete = refl
 name-of (SetKey target) = refl
 
 -- nothing put anywhere
-splice-none : (s : List ℕ) (i : ℕ) → splice s i [] ≡ s
+splice-none : (s : List ℕ) → splice s 8 [] ≡ s
 unfolding splice
-splice-none s i = take-append-drop i s
+splice-none s = take-append-drop 8 s
 
 module _ (d : Drive) (m f space : List ℕ) (q : ParsedRequest) (e : requestTold q ≡ fields f .req)
     (w : Room d m (fields f) space) (start : Option ℕ)
@@ -128,13 +128,17 @@ module _ (d : Drive) (m f space : List ℕ) (q : ParsedRequest) (e : requestTold
     pub first : x .req .A ≡ firstNumber o
     pub second : x .req .B ≡ secondNumber o
 
-  pub is : Is (q .operation)
-  is = record { number = number-is; first = first-is; second = second-is }
+  asked : Is (q .operation)
+  asked = record { number = number-is; first = first-is; second = second-is }
 
   name : (o : Operation) → Is o → operationOf x ≡ nameOf o
   name o i = ap operation (i .number) ∙ name-of o
 
   -- ---- the medium
+  cleared-at : (from n k : ℕ) → k ≡ n → from + n ≤ length m
+      → cond (leb (from + n) (length m)) (splice m from (replicate n 0)) m ≡ splice m from (replicate k 0)
+  cleared-at from n k e h = rw (le-leb (from + n) (length m) h, e) refl
+
   medium-by : (o : Operation) → Is o → mediumPut o s (x .payload) m ≡ mediumAfter (nameOf o) Q x t m
   unfolding mediumAfter siteOf extentStart objectOf named startOf
   medium-by (Read a b) i = refl
@@ -150,17 +154,16 @@ module _ (d : Drive) (m f space : List ℕ) (q : ParsedRequest) (e : requestTold
   medium-by Raise i = refl
   medium-by (Create number size) i =
       let p : start ≡ placeOf Q t x = placed ∙ rw (i .number) refl in
-      let l = w .cleared (name (Create number size) i) in
-      rw (
-        p,
-        i .second,
-        le-leb (x .cred .partition * Q + Option·getD (placeOf Q t x) 0 + size) (length m) (rw (← i .second) l),
-      ) refl
+      let from : ℕ = x .cred .partition * Q + startOf Q t x in
+      ap (λ (p : Option ℕ). cond (leb (x .cred .partition * Q + Option·getD p 0 + size) (length m))
+      (splice m (x .cred .partition * Q + Option·getD p 0) (replicate size 0)) m) p
+      ∙ cleared-at from size (x .req .B) (i .second)
+      (subst (λ (n : ℕ). from + n ≤ length m) (i .second) (w .cleared (name (Create number size) i)))
   medium-by Delete i = refl
   medium-by (SetKey target) i = refl
 
   pub medium-is : mediumPut (q .operation) s (x .payload) m ≡ mediumAfter (operationOf x) Q x t m
-  medium-is = medium-by (q .operation) is ∙ ap (λ (o : rules.Operation). mediumAfter o Q x t m) (sym name-is)
+  medium-is = medium-by (q .operation) asked ∙ ap (λ (o : rules.Operation). mediumAfter o Q x t m) (sym name-is)
 
   -- ---- the result
   -- the next version is one more: row 21 refused the last
@@ -182,7 +185,7 @@ module _ (d : Drive) (m f space : List ℕ) (q : ParsedRequest) (e : requestTold
         i .first,
         i .second,
       ) refl
-  result-by (Write a b) i r h = sym (splice-none r 8)
+  result-by (Write a b) i r h = sym (splice-none r)
   result-by Look i r h =
       let n : resultLength (x .req) ≡ 8 = rw (i .number) refl in
       let a : List ℕ = bigEndian 4 (s .told) in
@@ -201,14 +204,14 @@ module _ (d : Drive) (m f space : List ℕ) (q : ParsedRequest) (e : requestTold
       let n : resultLength (x .req) ≡ 4 = rw (i .number) refl in
       put-number r 8 (nextOf (P .last)) (omega arith)
       ∙ ap (λ (v : ℕ). splice r 8 (bigEndian 4 v)) (next-is (rw (i .number) refl))
-  result-by Delete i r h = sym (splice-none r 8)
-  result-by (SetKey target) i r h = sym (splice-none r 8)
+  result-by Delete i r h = sym (splice-none r)
+  result-by (SetKey target) i r h = sym (splice-none r)
 
   abbrev res : List ℕ
   res = result (operationOf x) Q t x m
 
   result-is : (r : List ℕ) → 8 + resultLength (x .req) ≤ length r → resultPut (q .operation) s m r ≡ splice r 8 res
-  result-is r h = result-by (q .operation) is r h
+  result-is r h = result-by (q .operation) asked r h
       ∙ ap (λ (o : rules.Operation). splice r 8 (result o Q t x m)) (sym name-is)
 
   known-name : (o : Operation) → known (nameOf o) ≡ true
@@ -235,8 +238,8 @@ module _ (d : Drive) (m f space : List ℕ) (q : ParsedRequest) (e : requestTold
   H = head (x .req) (resultLength (x .req))
 
   head-long : length H ≡ 8
-  unfolding head
-  head-long = ap (λ (n : ℕ). 4 + n) (length-bigEndian 4 (resultLength (x .req)))
+  unfolding head bigEndian
+  head-long = refl
 
   abbrev front : List ℕ
   front = splice space 0 (H ++ res)
@@ -275,7 +278,7 @@ module _ (d : Drive) (m f space : List ℕ) (q : ParsedRequest) (e : requestTold
       ap (λ (y : List ℕ). hmac key (x .credential ++ x .request ++ y)) (splice-front space (H ++ res) n lf)
       ∙ ap (hmac key) (append-assoc (x .credential) (x .request) (H ++ res)) in
       rw (le-leb (n + 32) (length front) (omega arith), g)
-      (splice-after-size space (H ++ res) D 0 n lf
+      (splice-after-size space (H ++ res) D 0 n (omega arith)
       (omega (arith, length-hmac key (x .credential ++ (x .request ++ (H ++ res))))))
 
   pub reply-is : replyPut key (x .credential ++ x .request) (requestTold q) (q .operation) s m space
@@ -303,7 +306,7 @@ module _ (d : Drive) (m f space : List ℕ) (q : ParsedRequest) (e : requestTold
       (x .request ++ x .payload) (t .keys)
       ≡ driveAfter (operationOf x) x d .tables .keys
   unfolding driveAfter
-  keys-is = keys-by (q .operation) is ∙ ap (λ (o : rules.Operation). tablesAfter o Q x t .keys) (sym name-is)
+  keys-is = keys-by (q .operation) asked ∙ ap (λ (o : rules.Operation). tablesAfter o Q x t .keys) (sym name-is)
 
   -- ---- the partition, of four, and the memory, of five
   module _ (four : length (t .partitions) ≡ 4) (five : length (d .memories) ≡ 5) (in-five : memory x < 5) where
@@ -332,7 +335,7 @@ module _ (d : Drive) (m f space : List ℕ) (q : ParsedRequest) (e : requestTold
     pub partition-is : partitionAfter (q .operation) (x .cred .object) (s .next) (s .place) P
         ≡ home (driveAfter (operationOf x) x d .tables) x
     unfolding driveAfter
-    partition-is = partition-by (q .operation) is
+    partition-is = partition-by (q .operation) asked
         ∙ ap (λ (o : rules.Operation). home (tablesAfter o Q x t) x) (sym name-is)
 
     pub memory-is : (new : Entry) → new ≡ entry x

@@ -36,24 +36,24 @@ use Rattle.wire.specs.Parse.{frameRow}
 use Rattle.drive.specs.Site.{Room}
 
 -- ---- one table after another
-pub rows-passed : (as bs : List Row) → numbered as ≡ true → firstRow as ≡ 0 → firstRow (as ++ bs) ≡ firstRow bs
+pub rows-passed : (rs bs : List Row) → numbered rs ≡ true → firstRow rs ≡ 0 → firstRow (rs ++ bs) ≡ firstRow bs
 unfolding firstRow every
 rows-passed [] bs n z = refl
-rows-passed (r ∷ as) bs n z =
-    go (r .applies) z (rows-passed as bs (and-r (r .row isnt 0) (numbered as) n))
+rows-passed (r ∷ rs) bs n z =
+    go (r .applies) z (rows-passed rs bs (and-r (r .row isnt 0) (numbered rs) n))
   where
-    go : (b : Bool) → cond b (r .row) (firstRow as) ≡ 0 → (firstRow as ≡ 0 → firstRow (as ++ bs) ≡ firstRow bs)
-        → cond b (r .row) (firstRow (as ++ bs)) ≡ firstRow bs
-    go true k ih = absurd (eqb-false (r .row) 0 (not-true (r .row is 0) (and-l (r .row isnt 0) (numbered as) n)) k)
+    go : (b : Bool) → cond b (r .row) (firstRow rs) ≡ 0 → (firstRow rs ≡ 0 → firstRow (rs ++ bs) ≡ firstRow bs)
+        → cond b (r .row) (firstRow (rs ++ bs)) ≡ firstRow bs
+    go true k ih = absurd (eqb-false (r .row) 0 (not-true (r .row is 0) (and-l (r .row isnt 0) (numbered rs) n)) k)
     go false k ih = ih k
 
-pub rows-met : (as bs : List Row) → (firstRow as ≡ 0 → ⊥) → firstRow (as ++ bs) ≡ firstRow as
+pub rows-met : (rs bs : List Row) → (firstRow rs ≡ 0 → ⊥) → firstRow (rs ++ bs) ≡ firstRow rs
 unfolding firstRow
 rows-met [] bs z = absurd (z refl)
-rows-met (r ∷ as) bs z = go (r .applies) z (rows-met as bs)
+rows-met (r ∷ rs) bs z = go (r .applies) z (rows-met rs bs)
   where
-    go : (b : Bool) → (cond b (r .row) (firstRow as) ≡ 0 → ⊥) → ((firstRow as ≡ 0 → ⊥) → firstRow (as ++ bs) ≡ firstRow as)
-        → cond b (r .row) (firstRow (as ++ bs)) ≡ cond b (r .row) (firstRow as)
+    go : (b : Bool) → (cond b (r .row) (firstRow rs) ≡ 0 → ⊥) → ((firstRow rs ≡ 0 → ⊥) → firstRow (rs ++ bs) ≡ firstRow rs)
+        → cond b (r .row) (firstRow (rs ++ bs)) ≡ cond b (r .row) (firstRow rs)
     go true k ih = refl
     go false k ih = ih k
 
@@ -106,7 +106,7 @@ module _ (d : Drive) (m f space : List ℕ) (fresh : refresh 0 d ≡ d) (ready :
 
   -- the rules' facts are of the drive at a clock reading of 0, which is the drive itself
   pub room : Room d m x space
-  unfolding row21 extentStart
+  unfolding row21 extentStart remembered
   room = record {
     small = leb-true (d .size) largestMedium (small-of d sound-d);
     four = in-four d m f 0 space none;

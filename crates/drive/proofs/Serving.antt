@@ -73,13 +73,13 @@ module _ (s : Share) (m f space : List ℕ) (c : Credential) (q : ParsedRequest)
   keys = alone s .tables .keys
 
   pub zero-row : frameRow f ≡ 0
-  zero-row = fields-told f c q (w .parsed) .0 .0
+  zero-row = fields-told f c q (w .parsed) .0
 
   pub c-is : c ≡ y .cred
-  c-is = fields-told f c q (w .parsed) .0 .1
+  c-is = fields-told f c q (w .parsed) .1
 
   pub q-is : requestTold q ≡ y .req
-  q-is = fields-told f c q (w .parsed) .1
+  q-is = fields-told f c q (w .parsed) .2
 
   abbrev table : List Row
   table = driveRows (alone s) y space
@@ -204,13 +204,13 @@ module _ (s : Share) (seen : Mac) (k m f space : List ℕ) (c : Credential) (q :
   d = alone s
 
   zero-g : frameRow f ≡ 0
-  zero-g = fields-told f c q (g .parsed) .0 .0
+  zero-g = fields-told f c q (g .parsed) .0
 
   c-g : c ≡ v .cred
-  c-g = fields-told f c q (g .parsed) .0 .1
+  c-g = fields-told f c q (g .parsed) .1
 
   q-g : requestTold q ≡ v .req
-  q-g = fields-told f c q (g .parsed) .1
+  q-g = fields-told f c q (g .parsed) .2
 
   abbrev here : Site
   here = siteOf (s .size) (partitionOf (s .partition)) c start

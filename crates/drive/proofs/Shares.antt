@@ -89,7 +89,7 @@ module _ (d₀ d : Drive) (clock : ℕ) (v : view d ≡ refresh clock (view d₀
   x = fields f
 
   zero : frameRow f ≡ 0
-  zero = fields-told f c q parsed .0 .0
+  zero = fields-told f c q parsed .0
 
   abbrev part : Partition
   part = getD (d .partitions) (x .cred .partition) noPartition
@@ -141,7 +141,7 @@ module _ (d₀ d : Drive) (clock : ℕ) (v : view d ≡ refresh clock (view d₀
   sound-share = rw (small-of (view d) sound-d, sound-part, sound-mem) refl
 
   fresh-share : keep (lives (d .highwater)) (entriesOf mem) ≡ entriesOf mem
-  unfolding remembered refresh view
+  unfolding remembered refresh view keep
   fresh-share =
       let mark : d .highwater ≡ newHighWater (d₀ .highwater) clock = ap (λ (e : rules.Drive). e .tables .highWater) v in
       let l : List Entry = getD (view d₀ .memories) (memory x) [] in

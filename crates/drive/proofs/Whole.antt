@@ -93,7 +93,7 @@ module _ (e b : Drive) (x : Fields) (size : b .size ≡ e .size) (mark : b .tabl
 
   -- ---- it is judged alike
   rows-same : driveRows b x space ≡ driveRows e x space
-  unfolding row8 row9 placeOf digestOf credentialKey signing
+  unfolding row8 row9 placeOf digestOf credentialKey signing remembered
   rows-same = rules-rows b x space ∙ rw (size, mark, keys, same, held) refl ∙ sym (rules-rows e x space)
 
   -- ---- its result and its medium are the same

@@ -5,6 +5,7 @@ use Prim.Native.Nat.{ℕ}
 use native.Mathlib.Omega.{arith}
 use Rattle.rules.specs.declared.Request.{Request}
 use Rattle.rules.specs.Frame.{fields}
+use Rattle.rules.specs.Gate.{granted}
 use Rattle.rules.specs.Operations.{credentialKey, replyLength}
 use Rattle.keyring.specs.View.{keysOf}
 use Rattle.memory.specs.Memory.{entriesOf}
@@ -30,9 +31,10 @@ part-keys-after-start : tie.Need-part-keys-after-start
 part-keys-after-start c = let h = c .before .before .before .before .before .before .before .before .before .before .before .before .before .before .before .before .before .before .before .before .pre .long in search needs
 
 same-length-2 : tie.Need-same-length-2
-same-length-2 c = ?
+same-length-2 c = c .before .before .before .before .before .before .before .before .before .before .before .before .before .before .put-reply .kept .0
 
 returns : tie.Need-returns
+unfolding granted
 returns c =
     let a = c .before .before .before .before .before .before .before .before .before .before .before .before .before .before .before .before .before .before .before .before .before .before .before .before .before .before .args in
     let pre = c .before .before .before .before .before .before .before .before .before .before .before .before .before .before .before .before .before .before .before .before .before .before .before .before .before .before .pre in

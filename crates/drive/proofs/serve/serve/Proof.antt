@@ -28,6 +28,9 @@ use borrow.Author.Needs.{needs}
 use Rattle.drive.proofs.serve.serve.Statement.{statement}
 use Rattle.drive.proofs.serve.serve.Tie as tie
 
+secret-long : (t : tie.After-key-in) → length (t .key-in .result .bytes) ≡ 32
+secret-long t = search needs
+
 -- past row 8 the key is set
 set-of : (t : tie.Else1) → t .before .before .key-in .result .set ≡ true
 set-of t = not-false (t .before .before .key-in .result .set) (t .if1 .left)
@@ -66,7 +69,7 @@ returns c =
     let k = c .before .before .before .key-in in
     let e = c .refusal .ensures in
     refusal-given (a .share) (a .medium .now) (a .frame .now) (a .reply .now) (a .c) (a .q) pre (c .refusal .result) 8 (eight (a .share) (a .medium .now) (a .frame .now) (a .reply .now) (a .c) (a .q) pre (k .result) (k .ensures) (not-true (k .result .set) (c .before .if1 .taken)))
-    (λ z. omega arith) (e .0 .0) (e .0 .1) (e .1)
+    (λ z. omega arith) (e .0) (e .1) (e .2)
 
 opened-requires : tie.Need-opened-requires
 opened-requires c κs =
@@ -90,7 +93,7 @@ returns-2 c =
     let e = c .refusal2 .ensures in
     refusal-given (a .share) (a .medium .now) (a .frame .now) (a .reply .now) (a .c) (a .q) pre (c .refusal2 .result) 9
     (nine (a .share) (a .medium .now) (a .frame .now) (a .reply .now) (a .c) (a .q) pre (k .result) (k .ensures) (set-of (c .before .before .before .before .before .before)) (g .result) (g .ensures (credentialKey (alone (a .share) .tables .keys) (fields (a .frame .now))) (keyed-of (c .before .before .before))) (not-true (g .result) (c .before .if2 .taken)))
-    (λ z. omega arith) (e .0 .0) (e .0 .1) (e .1)
+    (λ z. omega arith) (e .0) (e .1) (e .2)
 
 cast-place-for : tie.Need-cast-place-for
 cast-place-for c =
@@ -104,10 +107,10 @@ returns-3 c =
     let a = c .before .before .before .before .before .before .before .before .before .before .before .before .before .before .before .before .before .before .before .before .before .before .args in
     let pre = c .before .before .before .before .before .before .before .before .before .before .before .before .before .before .before .before .before .before .before .before .before .before .pre in
     let e = c .refusal3 .ensures in
-    refusal-given (a .share) (a .medium .now) (a .frame .now) (a .reply .now) (a .c) (a .q) pre (c .refusal3 .result) (c .before .before .judge .result) (row-of (c .before .before)) (c .before .if3 .taken) (e .0 .0) (e .0 .1) (e .1)
+    refusal-given (a .share) (a .medium .now) (a .frame .now) (a .reply .now) (a .c) (a .q) pre (c .refusal3 .result) (c .before .before .judge .result) (row-of (c .before .before)) (c .before .if3 .taken) (e .0) (e .1) (e .2)
 
 slice-aggregate-grant : tie.Need-slice-aggregate-grant
-slice-aggregate-grant c = ?
+slice-aggregate-grant c = sym (secret-long (c .before .before .before .before .before .before .before .before .before .before .before .before .before))
 
 grant-requires : tie.Need-grant-requires
 grant-requires c κs =

@@ -12,7 +12,7 @@ use Rattle.drive.proofs.serve.site_of.Tie as tie
 mul-t10 : tie.Need-mul-t10
 mul-t10 c =
     let a = c .before .before .before .args in
-    let small : a .c .partition * (a .size / 4) ≤ 3 * 4194304 = mul-le-mul {m₁ = a .c .partition} {n₁ = 3} {m₂ = a .size / 4} {n₂ = 4194304} (omega arith) (omega arith) in
+    let small : a .c .partition * (a .size / 4) ≤ 3 * 4194304 = mul-le-mul {n₁ = a .c .partition} {m₁ = a .size / 4} {n₂ = 3} {m₂ = 4194304} (omega arith) (omega arith) in
     search needs
 
 returns : tie.Need-returns
