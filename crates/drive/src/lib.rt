@@ -6,6 +6,7 @@ use memory::Memory;
 use partition::Partition;
 use wire::Parsed;
 
+mod blank;
 mod fresh;
 mod serve;
 
@@ -47,6 +48,24 @@ struct Outcome {
     row: u32,
     length: usize,
     share: Share,
+}
+
+// Makes a medium a drive's: every byte becomes 0. Refused, the medium stays as it is, and the drive returned has nothing.
+pub fn format(medium: &mut [u8], first: u32, master: &[u8], key: &[u8]) -> Formatted
+    ensures { λ r. ⌜ FormatMet (now (medium .entry)) first (now (master .entry)) (now (key .entry)) r (now (medium .exit)) ⌝ }
+{
+    let row = blank::format_row(medium.len(), first, master.len(), key.len());
+    if row != 0 {
+        let none = keyring::no_key();
+        let drive = blank::new_drive(0, 0, none, none);
+        return Formatted { row, drive };
+    }
+    let size = medium.len();
+    let m = blank::key_of(master);
+    let k = blank::key_of(key);
+    extent::clear_all(medium);
+    let drive = blank::new_drive(size, first, m, k);
+    Formatted { row: 0, drive }
 }
 
 // Puts a frame to the drive at a clock reading: a grant, its reply at the start of `reply`; or one row number.
