@@ -124,30 +124,30 @@ module _ (s : Share) (m f space : List ℕ) (c : Credential) (q : ParsedRequest)
       -- the digest compared
       module _ (signed : Bool)
           (compared : signed ≡ same (y .digest) (hmac (credentialKey keys y) (covered (q .level) (y .credential) (y .request) (y .payload))))
-          where
-        row9-is : row9 (alone s .tables) y ≡ not signed
-        unfolding row9 digestOf requestTold
-        row9-is = ap not (ap (λ (l : ℕ). same (y .digest) (hmac (credentialKey keys y)
-            (covered l (y .credential) (y .request) (y .payload)))) (sym (ap Request.level q-is)) ∙ sym compared)
+        where
+          row9-is : row9 (alone s .tables) y ≡ not signed
+          unfolding row9 digestOf requestTold
+          row9-is = ap not (ap (λ (l : ℕ). same (y .digest) (hmac (credentialKey keys y)
+              (covered l (y .credential) (y .request) (y .payload)))) (sym (ap Request.level q-is)) ∙ sym compared)
 
-        pub nine : signed ≡ false → firstRow table ≡ 9
-        nine h = from9 ∙ row-here (line 9 (row9 (alone s .tables) y)) judged (row9-is ∙ ap not h)
+          pub nine : signed ≡ false → firstRow table ≡ 9
+          nine h = from9 ∙ row-here (line 9 (row9 (alone s .tables) y)) judged (row9-is ∙ ap not h)
 
-        over-share : firstRow (judgeRows (s .highwater) (home (alone s .tables) y) (remembered (alone s) y) (y .cred)
-            (y .req) (cond (y .req .operation isnt 5) none (placeOf (quarter (s .size)) (alone s .tables) y)) (length space))
-            ≡ firstRow (judgeRows (s .highwater) (partitionOf (s .partition)) (entriesOf (s .memory)) c
-            (requestTold q) (placeFor (quarter (s .size)) (s .partition .objects) (requestTold q)) (length space))
-        unfolding placeOf partitionOf
-        over-share = rw (alone-home s f zero-row, alone-memory s f zero-row, c-is, q-is) refl
+          over-share : firstRow (judgeRows (s .highwater) (home (alone s .tables) y) (remembered (alone s) y) (y .cred)
+              (y .req) (cond (y .req .operation isnt 5) none (placeOf (quarter (s .size)) (alone s .tables) y)) (length space))
+              ≡ firstRow (judgeRows (s .highwater) (partitionOf (s .partition)) (entriesOf (s .memory)) c
+              (requestTold q) (placeFor (quarter (s .size)) (s .partition .objects) (requestTold q)) (length space))
+          unfolding placeOf partitionOf
+          over-share = rw (alone-home s f zero-row, alone-memory s f zero-row, c-is, q-is) refl
 
-        pub from10 : signed ≡ true
-            → firstRow table ≡ firstRow (judgeRows (s .highwater) (partitionOf (s .partition)) (entriesOf (s .memory)) c
-            (requestTold q) (placeFor (quarter (s .size)) (s .partition .objects) (requestTold q)) (length space))
-        from10 h =
-            from9 ∙ row-next (line 9 (row9 (alone s .tables) y)) judged (row9-is ∙ ap not h)
-            ∙ ap firstRow (sym (place-when (s .highwater) (home (alone s .tables) y) (remembered (alone s) y) (y .cred)
-            (y .req) (placeOf (quarter (s .size)) (alone s .tables) y) (length space)))
-            ∙ over-share
+          pub from10 : signed ≡ true
+              → firstRow table ≡ firstRow (judgeRows (s .highwater) (partitionOf (s .partition)) (entriesOf (s .memory)) c
+              (requestTold q) (placeFor (quarter (s .size)) (s .partition .objects) (requestTold q)) (length space))
+          from10 h =
+              from9 ∙ row-next (line 9 (row9 (alone s .tables) y)) judged (row9-is ∙ ap not h)
+              ∙ ap firstRow (sym (place-when (s .highwater) (home (alone s .tables) y) (remembered (alone s) y) (y .cred)
+              (y .req) (placeOf (quarter (s .size)) (alone s .tables) y) (length space)))
+              ∙ over-share
 
   -- ---- a refusal
   pub refusal-given : (r : Outcome) (n : ℕ) → firstRow table ≡ n → (n ≡ 0 → ⊥) → r .row ≡ n → r .length ≡ 0

@@ -84,7 +84,8 @@ keep-again t (e ∷ l) = go (t e) refl (keep-again t l)
 -- d₀: the drive lent. d: the drive at the clock reading
 module _ (d₀ d : Drive) (clock : ℕ) (v : view d ≡ refresh clock (view d₀)) (counted : Counted d)
     (whole : sound (view d₀) ≡ true) (m f : List ℕ) (size : length m ≡ d₀ .size) (c : Credential) (q : ParsedRequest)
-    (parsed : told (Parsed·Fields c q) ≡ parseOf f) where
+    (parsed : told (Parsed·Fields c q) ≡ parseOf f) (i k : ℕ) (i-is : i ≡ fields f .cred .partition)
+    (k-is : k ≡ memory (fields f)) where
   abbrev x : Fields
   x = fields f
 
@@ -92,10 +93,10 @@ module _ (d₀ d : Drive) (clock : ℕ) (v : view d ≡ refresh clock (view d₀
   zero = fields-told f c q parsed .0
 
   abbrev part : Partition
-  part = getD (d .partitions) (x .cred .partition) noPartition
+  part = getD (d .partitions) i noPartition
 
   abbrev mem : Memory
-  mem = getD (d .memories) (memory x) noMemory
+  mem = getD (d .memories) k noMemory
 
   abbrev share : Share
   share = record {
@@ -108,19 +109,21 @@ module _ (d₀ d : Drive) (clock : ℕ) (v : view d ≡ refresh clock (view d₀
 
   few-part : part .objects .count ≤ mostObjects
   few-part = leb-true (part .objects .count) mostObjects
-      (every-nth few (d .partitions) (x .cred .partition) noPartition refl (counted .objects))
+      (every-nth few (d .partitions) i noPartition refl (counted .objects))
 
   short-mem : mem .count ≤ mostEntries
-  short-mem = leb-true (mem .count) mostEntries (every-nth short (d .memories) (memory x) noMemory refl (counted .entries))
+  short-mem = leb-true (mem .count) mostEntries (every-nth short (d .memories) k noMemory refl (counted .entries))
 
   -- ---- the share is the frame's own part of the drive
   home-is : home (view d .tables) x ≡ partitionOf part
   unfolding view viewed padded
-  home-is = nth-map viewed (d .partitions) (x .cred .partition) noPartition ∙ viewed-is part few-part
+  home-is = ap (λ (j : ℕ). getD (map viewed (d .partitions)) j (unused 0)) (sym i-is)
+      ∙ nth-map viewed (d .partitions) i noPartition ∙ viewed-is part few-part
 
   held-is : remembered (view d) x ≡ entriesOf mem
   unfolding view remembered entered padded
-  held-is = nth-map entered (d .memories) (memory x) noMemory
+  held-is = ap (λ (j : ℕ). getD (map entered (d .memories)) j []) (sym k-is)
+      ∙ nth-map entered (d .memories) k noMemory
       ∙ padded-is mostEntries noEntry (mem .count) (mem .entries) short-mem
 
   sound-d : sound (view d) ≡ true
@@ -169,8 +172,8 @@ module _ (d₀ d : Drive) (clock : ℕ) (v : view d ≡ refresh clock (view d₀
       size = d .size;
       highwater = d .highwater;
       keys = out .share .keys;
-      partitions = set (d .partitions) (x .cred .partition) (out .share .partition);
-      memories = set (d .memories) (memory x) (out .share .memory);
+      partitions = set (d .partitions) i (out .share .partition);
+      memories = set (d .memories) k (out .share .memory);
     }
 
     abbrev a : rules·gate.Answer
@@ -185,9 +188,11 @@ module _ (d₀ d : Drive) (clock : ℕ) (v : view d ≡ refresh clock (view d₀
         padded-is mostEntries noEntry (out .share .memory .count) (out .share .memory .entries) (given .short)
         ∙ given .memory in
         rw (
-          set-update viewed (d .partitions) (x .cred .partition) (out .share .partition) (home (a .drive .tables) x) p,
-          set-update entered (d .memories) (memory x) (out .share .memory) (remembered (a .drive) x) n,
+          set-update viewed (d .partitions) i (out .share .partition) (home (a .drive .tables) x) p,
+          set-update entered (d .memories) k (out .share .memory) (remembered (a .drive) x) n,
           given .keys,
+          i-is,
+          k-is,
         ) refl
 
     whole-is : admitted (view d) m x space ≡ backIn (view d) x a

@@ -16,6 +16,8 @@ ghost use Rattle.placing.specs.Placing.{told};
 ghost use Rattle.partition.specs.Partition.{partitionOf};
 ghost use Rattle.drive.specs.Share.{alone, admitted, Ready, Given};
 ghost use Rattle.drive.specs.Site.{siteOf, Granting};
+use super::Outcome;
+use super::Share;
 use digest::mac;
 use digest::mac::Mac;
 use effect::Site;
@@ -23,8 +25,6 @@ use lemmas::pick;
 use partition::Partition;
 use placing::Place;
 use rules::Credential;
-use super::Outcome;
-use super::Share;
 use wire::ParsedRequest;
 
 // Which of the five memories: one for each partition (slots 0 to 2), a fifth for slots 3 and 4.

@@ -45,7 +45,7 @@ returns c =
     let e = refused (a .medium .now) (a .first) (a .master .now) (a .key .now) (row .result) (row .ensures) (c .before .before .if1 .taken) in
     record {
       row = ap (λ (x : Formatted). x .row) (sym e);
-      drive = (rw (c .before .no-key .ensures) at (c .new-drive .ensures)) ∙ ap (λ (x : Formatted). x .drive) (sym e);
+      drive = (rw (c .before .no-key .ensures .0) at (c .new-drive .ensures)) ∙ ap (λ (x : Formatted). x .drive) (sym e);
       medium = ap (λ (x : Formatted). x .medium) (sym e);
     }
 

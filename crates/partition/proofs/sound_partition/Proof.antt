@@ -14,9 +14,10 @@ use Rattle.partition.proofs.sound_partition.Tie as tie
 returns : tie.Need-returns
 returns c =
     let a = c .before .before .before .args in
-    let long : length (a .p .objects .items) ≡ 16 = search (needs, unmapped) in
-    (rw (sound-viewed (a .quarter) (a .p) long, c .sound-objects .ensures),
-    λ h. leb-true (a .p .objects .count) mostObjects (and-l (leb (a .p .objects .count) mostObjects) (c .sound-objects .result) h))
+    let long : length (a .p .objects .items) ≡ 16 = search (needs, unmapped) in (
+      rw (sound-viewed (a .quarter) (a .p) long, c .sound-objects .ensures),
+      λ h. leb-true (a .p .objects .count) mostObjects (and-l (leb (a .p .objects .count) mostObjects) (c .sound-objects .result) h),
+    )
 
 pub sound-partition-spec : {M : Type 1} → statement M
 sound-partition-spec = tie.close (tie.spec (λ c κs. search needs) returns)

@@ -7,7 +7,7 @@ use Rattle.drive.proofs.blank.new_drive.Tie as tie
 
 returns : tie.Need-returns
 unfolding view keysOf
-returns c = rw (c .empty-memory .ensures, c .before .unused-partition .ensures, c .before .before .no-key .ensures)
+returns c = rw (c .empty-memory .ensures, c .before .unused-partition .ensures, c .before .before .no-key .ensures .0)
 
 pub new-drive-spec : {M : Type 1} → statement M
 new-drive-spec =

@@ -16,9 +16,9 @@ returns-2 : tie.Need-returns-2
 unfolding covered
 returns-2 c =
     λ k a b h.
-        let s = c .before .before .before .before .args in
-        rw (ne-eqb (s .level) 0 (c .before .before .if1 .left))
-        (c .finish2 .ensures k (a ++ b ++ s .payload .now) (c .before .absorb .ensures k (a ++ b) h) ∙ ap (hmac k) (append-assoc a b (s .payload .now)))
+    let s = c .before .before .before .before .args in
+    rw (ne-eqb (s .level) 0 (c .before .before .if1 .left))
+    (c .finish2 .ensures k (a ++ b ++ s .payload .now) (c .before .absorb .ensures k (a ++ b) h) ∙ ap (hmac k) (append-assoc a b (s .payload .now)))
 
 pub frame-digest-spec : {M : Type 1} → statement M
 frame-digest-spec =

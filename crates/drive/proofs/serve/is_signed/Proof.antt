@@ -11,10 +11,10 @@ use Rattle.drive.proofs.serve.is_signed.Tie as tie
 returns : tie.Need-returns
 returns c =
     λ k h.
-        let a = c .before .before .before .before .before .before .args in
-        let f = a .frame .now in
-        let right = c .before .before .before .frame-digest .ensures k (fields f .credential) (fields f .request) h in
-        rw (c .same .ensures, the-digest f (c .before .before .before .before .before .before .pre), right, the-payload f (c .before .before .before .before .before .before .pre))
+    let a = c .before .before .before .before .before .before .args in
+    let f = a .frame .now in
+    let right = c .before .before .before .frame-digest .ensures k (fields f .credential) (fields f .request) h in
+    rw (c .same .ensures, the-digest f (c .before .before .before .before .before .before .pre), right, the-payload f (c .before .before .before .before .before .before .pre))
 
 pub is-signed-spec : {M : Type 1} → statement M
 is-signed-spec =
