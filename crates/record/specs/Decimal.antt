@@ -1,14 +1,17 @@
 -- Laws of numbers in decimal: one digit more in front of a text, and how long a number and a line can be.
 use mathlib.Core.Path.{_≡_, refl, sym, ap, _∙_}
+use mathlib.Core.Bool.{Bool, true, false, cond}
 use mathlib.Core.List.{List, [], _∷_, _++_, append-assoc}
 use Prim.Native.Nat.{ℕ, zero, suc, _+_, _*_, _/_, _%_, _^_, _≤_, _<_}
 use native.Mathlib.Nat.{pow-suc}
 use native.Mathlib.Decide.{decLt}
 use native.Mathlib.Omega.{arith}
+use lib.Dec.{leb}
 use lib.ListN.{length, take, drop, set, length-append}
 use lib.Seq.{set-split, drop-at, length-take-le}
-use borrow.Author.Tests.{lt-ltb, le-ltb}
-use Rattle.rules.specs.Program.{digits}
+use borrow.Author.Tests.{lt-ltb, le-ltb, leb-true}
+use Rattle.rules.specs.Program.{digits, decimal, printed}
+use Rattle.record.specs.Text.{placeAfter}
 
 -- ---- digits, the last one apart
 pub digits-one : (f n : ℕ) → n < 10 → digits (suc f) n ≡ (48 + n) ∷ []
@@ -54,3 +57,25 @@ length-digits (suc f) n = go (decLt n 10) (length-digits f (n / 10))
     go (no h) k =
         rw (digits-more f n (omega arith))
         (omega (arith, k, length-append (digits f (n / 10)) ((48 + n % 10) ∷ [])))
+
+pub length-printed : (n row size : ℕ) → length (printed n row size) ≤ 63
+length-printed n row size =
+    let third : List ℕ = decimal size ++ (10 ∷ []) in
+    let second : List ℕ = decimal row ++ (32 ∷ third) in
+    omega (
+      arith,
+      length-digits 20 n,
+      length-digits 20 row,
+      length-digits 20 size,
+      length-append (decimal size) (10 ∷ []),
+      length-append (decimal row) (32 ∷ third),
+      length-append (decimal n) (32 ∷ second),
+    )
+
+-- ---- the place after a text lies within the space, as its own place does
+pub place-within : (size i n : ℕ) → i ≤ size → placeAfter size i n ≤ size
+place-within size i n h = go (leb (i + n) size) refl
+  where
+    go : (b : Bool) → leb (i + n) size ≡ b → cond b (i + n) i ≤ size
+    go true e = leb-true (i + n) size e
+    go false e = h
