@@ -1,0 +1,65 @@
+-- One call as the program makes it, in the rules' words. The gate sees no more of a reply space than its length, so the
+-- space may hold the last reply. d: a drive. m: a medium. f: a frame. s, t: reply spaces.
+use mathlib.Core.Path.{_≡_, refl, sym, _∙_}
+use mathlib.Core.Bool.{Bool, true, false, cond}
+use mathlib.Core.List.{List}
+use Prim.Native.Nat.{ℕ}
+use lib.ListN.{length, length-replicate}
+use Rattle.lemmas.specs.Tests.{_is_}
+use Rattle.lemmas.specs.Rows.{Row, firstRow}
+use Rattle.rules.specs.Frame.{Fields, fields}
+use Rattle.rules.specs.Drive as rules
+use Rattle.rules.specs.Drive.{refresh}
+use Rattle.rules.specs.Rows.{rows, driveRows}
+use Rattle.rules.specs.Gate as rules·gate
+use Rattle.rules.specs.Gate.{gate, granted, refused, left}
+use Rattle.rules.specs.Demands.{State, answer, step}
+use Rattle.rules.specs.Program.{callIn}
+use Rattle.drive.specs.declared.Drive.{Drive}
+use Rattle.drive.specs.declared.Answer.{Answer}
+use Rattle.drive.specs.View.{view}
+use Rattle.drive.specs.Met.{GateMet, callOf}
+
+abbrev pub stateOf : Drive → List ℕ → State
+stateOf d m = record { drive = view d; medium = m }
+
+-- two answers that differ in the reply space at most
+record Alike (a b : rules·gate.Answer) : Type 0 where
+  row : a .row ≡ b .row
+  length : a .length ≡ b .length
+  drive : a .drive ≡ b .drive
+  medium : a .medium ≡ b .medium
+
+alike-by : (b : Bool) (row : ℕ) (d e : rules.Drive) (m : List ℕ) (x : Fields) (s t : List ℕ)
+    → Alike (cond b (granted d m x s) (refused row e m s)) (cond b (granted d m x t) (refused row e m t))
+unfolding granted
+alike-by true row d e m x s t = record { row = refl; length = refl; drive = refl; medium = refl }
+alike-by false row d e m x s t = record { row = refl; length = refl; drive = refl; medium = refl }
+
+rows-alike : (d : rules.Drive) (m f : List ℕ) (clock : ℕ) (s t : List ℕ) → length s ≡ length t
+    → rows d m f clock s ≡ rows d m f clock t
+unfolding rows driveRows
+rows-alike d m f clock s t e = rw e refl
+
+gate-alike : (d : rules.Drive) (m f : List ℕ) (clock : ℕ) (s t : List ℕ) → length s ≡ length t
+    → Alike (gate d m (callOf f clock s)) (gate d m (callOf f clock t))
+unfolding gate
+gate-alike d m f clock s t e =
+    let row : ℕ = firstRow (rows d m f clock t) in
+    rw (rows-alike d m f clock s t e)
+    (alike-by (row is 0) row (refresh clock d) (left row clock d) m (fields f) s t)
+
+-- what the gate promises of the record at the start of p, put to it with any reply space of 65,536 bytes
+pub answered : (d : Drive) (m p space : List ℕ) (r : Answer) (after replied : List ℕ) → length space ≡ 65_536
+    → GateMet d m (callOf (callIn p .frame) (callIn p .clock) space) r after replied
+    → (r .row ≡ answer (stateOf d m) (callIn p) .row)
+    × (r .length ≡ answer (stateOf d m) (callIn p) .length)
+    × (stateOf (r .drive) after ≡ step (stateOf d m) (callIn p))
+unfolding answer step
+answered d m p space r after replied e g =
+    let size : length (callIn p .space) ≡ 65_536 = length-replicate {A = ℕ} 65_536 0 in
+    let a = gate-alike (view d) m (callIn p .frame) (callIn p .clock) space (callIn p .space) (e ∙ sym size) in (
+      g .row ∙ a .row,
+      g .length ∙ a .length,
+      λ i. record { drive = (g .drive ∙ a .drive) i; medium = (g .medium ∙ a .medium) i },
+    )
