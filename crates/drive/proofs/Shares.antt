@@ -50,16 +50,10 @@ use Rattle.drive.specs.View.{view, entered, few, short, Counted}
 use Rattle.drive.specs.Share.{alone, admitted, Ready, Given}
 use Rattle.drive.specs.Met.{callOf, GateMet}
 use Rattle.drive.proofs.Frames.{in-four, in-five}
+use Rattle.drive.proofs.Turned.{noMemory, noPartition}
 use Rattle.drive.proofs.Serving.{alone-home, alone-memory}
 use Rattle.drive.proofs.Whole.{putBack, backIn, admitted-back}
 use Rattle.drive.proofs.Gates.{gate-admitted, drive-not-1, meets}
-
--- what stands past the end of the drive's arrays
-abbrev pub noPartition : Partition
-noPartition = record { version = 0; last = 0; objects = record { items = []; count = 0 } }
-
-abbrev pub noMemory : Memory
-noMemory = record { entries = []; count = 0 }
 
 -- ---- row 1's test as the code makes it
 pub ready-row1 : (d : rules.Drive) (m : List ℕ) (b : Bool) → b ≡ (sound d && length m is d .size) → row1 d m ≡ not b

@@ -1,7 +1,7 @@
 -- A loop that changes an array's elements in place, seen through a view of them; and memories and partitions whose
 -- count is within their array.
 use mathlib.Core.Path.{_≡_, refl, sym, ap, _∙_}
-use mathlib.Core.Bool.{Bool, true, _&&_}
+use mathlib.Core.Bool.{Bool, true, false, _&&_}
 use mathlib.Core.List.{List, [], _∷_, map}
 use Prim.Native.Nat.{ℕ, zero, suc, _+_, _≤_, _<_}
 use native.Mathlib.Nat.{not-suc-le-zero, le-of-suc-le-suc}
@@ -97,3 +97,20 @@ entered-length m h = padded-length mostEntries noEntry (m .count) (m .entries) h
 -- one of a list of such memories
 pub short-nth : (ms : List Memory) (i : ℕ) → every short ms ≡ true → getD ms i noMemory .count ≤ mostEntries
 short-nth ms i h = leb-true (getD ms i noMemory .count) mostEntries (every-nth short ms i noMemory refl h)
+
+-- ---- all five of five
+module _ {A : Type 0} (t : A → Bool) (d : A) where
+  and-true : (b : Bool) → b ≡ (b && true)
+  and-true true = refl
+  and-true false = refl
+
+  pub every-five : (l : List A) → length l ≡ 5
+      → (t (getD l 0 d) && (t (getD l 1 d) && (t (getD l 2 d) && (t (getD l 3 d) && t (getD l 4 d))))) ≡ every t l
+  unfolding every
+  every-five [] h = absurd (omega arith)
+  every-five (a ∷ []) h = absurd (omega arith)
+  every-five (a ∷ b ∷ []) h = absurd (omega arith)
+  every-five (a ∷ b ∷ c ∷ []) h = absurd (omega arith)
+  every-five (a ∷ b ∷ c ∷ e ∷ []) h = absurd (omega arith)
+  every-five (a ∷ b ∷ c ∷ e ∷ g ∷ []) h = ap (λ (x : Bool). t a && (t b && (t c && (t e && x)))) (and-true (t g))
+  every-five (a ∷ b ∷ c ∷ e ∷ g ∷ k ∷ l) h = absurd (omega arith)
