@@ -1,0 +1,157 @@
+//! "Client end": issuer, builder, reply check. Rows 26 and 28 to 30.
+
+use crate::digest::{hmac, Digest};
+use crate::records::*;
+
+/// "The issuer writes the 36 bytes and returns the credential key".
+pub fn issue(key: &[u8], c: &Credential, space: &mut [u8]) -> (u8, Digest) {
+    // "26. ..: a key lent is not 32 bytes."
+    if key.len() != 32 {
+        return (26, [0; 32]);
+    }
+    // "28. Issuer: a field that row 3 or 4 would refuse in the credential."
+    if row_3_credential(c) || row_4_credential(c) {
+        return (28, [0; 32]);
+    }
+    // "29. Issuer or builder: the space lent is too short; it is untouched. An issuer refused by any row returns 32 zero bytes
+    // as the key, a builder length 0."
+    if space.len() < 36 {
+        return (29, [0; 32]);
+    }
+    space[..36].copy_from_slice(&c.bytes());
+    // "Credential key = HMAC(key in that slot, the 36 bytes)".
+    (0, hmac(key, &c.bytes()))
+}
+
+/// "28. .. Builder, reply check: a record not 36 or 28 bytes long, or one of rows 3–7 met by the records".
+fn fields(credential: &[u8], request: &[u8]) -> Option<Request> {
+    if credential.len() != 36 || request.len() != 28 {
+        return None;
+    }
+    let (c, r) = (Credential::read(credential), Request::read(request));
+    if records_refused(&c, &r) {
+        return None;
+    }
+    Some(r)
+}
+
+/// "the builder writes a frame from both records and data". Returns row and frame length.
+pub fn build(credential: &[u8], request: &[u8], data: &[u8], key: &[u8], space: &mut [u8]) -> (u8, usize) {
+    if key.len() != 32 {
+        return (26, 0);
+    }
+    let Some(r) = fields(credential, request) else {
+        return (28, 0);
+    };
+    // "for the builder also n not the data's length"
+    if r.n as usize != data.len() {
+        return (28, 0);
+    }
+    let length = 96 + data.len();
+    if space.len() < length {
+        return (29, 0);
+    }
+    let mut signed = [credential, request].concat();
+    if r.level >= 1 {
+        signed.extend(data);
+    }
+    let frame = [credential, request, data, &hmac(key, &signed)].concat();
+    space[..length].copy_from_slice(&frame);
+    (0, length)
+}
+
+/// The reply check, as C has it: "row, start and length, the last two 0 when refused". "The reply check returns the result as a
+/// part of the reply itself": `reply[start..start + length]`.
+pub fn check(credential: &[u8], request: &[u8], key: &[u8], reply: &[u8]) -> (u8, usize, usize) {
+    if key.len() != 32 {
+        return (26, 0, 0);
+    }
+    let Some(r) = fields(credential, request) else {
+        return (28, 0, 0);
+    };
+    // "for the reply check also a result of over 4,194,304 bytes called for"
+    let length = r.result_length();
+    if length > 4_194_304 {
+        return (28, 0, 0);
+    }
+    // "30. Reply check: the reply is not the mark, operation, level, result length and total length that the request calls
+    // for, or its level 2 digest differs."
+    let mut head = REPLY_MARK.to_vec();
+    head.extend([r.operation, r.level]);
+    head.extend((length as u32).to_be_bytes());
+    if reply.len() as u64 != r.reply_length() || reply[..8] != head {
+        return (30, 0, 0);
+    }
+    let end = 8 + length as usize;
+    if r.level == 2 && hmac(key, &[credential, request, &reply[..end]].concat()) != reply[end..] {
+        return (30, 0, 0);
+    }
+    (0, 8, length as usize)
+}
+
+#[cfg(test)]
+mod tests {
+    use super::*;
+
+    fn credential() -> Credential {
+        Credential {
+            mark: CREDENTIAL_MARK,
+            partition: 3,
+            slot: 1,
+            object: 7,
+            version: 1,
+            rights: 3,
+            least: 1,
+            zero: 0,
+            first: 0,
+            end: 9,
+            expiry: 0,
+            holder: 0,
+        }
+    }
+
+    #[test]
+    fn issuer_rows() {
+        let c = credential();
+        let mut space = [1; 40];
+        assert_eq!(issue(&[0; 31], &Credential { slot: 9, ..c.clone() }, &mut []), (26, [0; 32]));
+        assert_eq!(issue(&[0; 32], &Credential { slot: 9, ..c.clone() }, &mut []), (28, [0; 32]));
+        assert_eq!(issue(&[0; 32], &Credential { slot: 3, ..c.clone() }, &mut []), (28, [0; 32]));
+        assert_eq!(issue(&[0; 32], &c, &mut space[..35]), (29, [0; 32]));
+        assert_eq!(space, [1; 40]);
+        assert_eq!(issue(&[0; 32], &c, &mut space), (0, hmac(&[0; 32], &c.bytes())));
+        assert_eq!(space[..36], c.bytes());
+        assert_eq!(space[36..], [1; 4]);
+    }
+
+    #[test]
+    fn builder_and_check_rows() {
+        let c = credential().bytes();
+        let r = Request { mark: REQUEST_MARK, operation: READ, level: 2, time: 0, count: 0, a: 0, b: 2, n: 0 };
+        let rb = r.bytes();
+        let key = [3; 32];
+        let mut space = [0; 100];
+        assert_eq!(build(&c[1..], &rb, &[], &key[1..], &mut space), (26, 0));
+        assert_eq!(build(&c[1..], &rb, &[], &key, &mut []), (28, 0));
+        assert_eq!(build(&c, &rb, &[0], &key, &mut []), (28, 0));
+        assert_eq!(build(&c, &rb, &[], &key, &mut space[..95]), (29, 0));
+        assert_eq!(space, [0; 100]);
+        assert_eq!(build(&c, &rb, &[], &key, &mut space), (0, 96));
+
+        let mut reply = vec![0x4c, 0x41, 1, 2, 0, 0, 0, 2, 8, 9];
+        let digest = hmac(&key, &[&c[..], &rb, &reply].concat());
+        reply.extend(digest);
+        assert_eq!(check(&c, &rb, &key, &reply), (0, 8, 2));
+        assert_eq!(check(&c, &rb, &key[1..], &reply), (26, 0, 0));
+        assert_eq!(check(&c, &rb[1..], &key, &reply), (28, 0, 0));
+        for at in 0..reply.len() {
+            let mut damaged = reply.clone();
+            damaged[at] ^= 1;
+            assert_eq!(check(&c, &rb, &key, &damaged), (30, 0, 0));
+        }
+        let long = Request { b: 4_194_305, ..r.clone() };
+        assert_eq!(check(&c, &long.bytes(), &key, &reply), (28, 0, 0));
+        let most = Request { b: 4_194_304, ..r };
+        assert_eq!(check(&c, &most.bytes(), &key, &reply), (30, 0, 0));
+    }
+}

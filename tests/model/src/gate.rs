@@ -1,0 +1,308 @@
+//! The gate: rows 1 to 23, the seven operations, the reply.
+
+use crate::digest::hmac;
+use crate::drive::*;
+use crate::records::*;
+
+/// Puts a frame to the gate. Returns the row (0 for a grant) and the reply's length.
+pub fn gate(drive: &mut Drive, medium: &mut [u8], frame: &[u8], clock: u64, space: &mut [u8]) -> (u8, usize) {
+    let (rows, length) = gate_with_rows(drive, medium, frame, clock, space);
+    (rows.first().copied().unwrap_or(0), length)
+}
+
+/// The same, telling every row that applies and not only the lowest: the tests count which ones met.
+pub fn gate_with_rows(
+    drive: &mut Drive,
+    medium: &mut [u8],
+    frame: &[u8],
+    clock: u64,
+    space: &mut [u8],
+) -> (Vec<u8>, usize) {
+    // "1. The drive record is not sound (it comes back unchanged, mark included), or the medium lent is not M bytes long."
+    if !drive.sound() || medium.len() != drive.size {
+        return (vec![1], 0);
+    }
+    // "each frame put to the gate first sets [the mark], before rows 2 on are judged .. refusals included"
+    drive.pass_time(clock);
+    // "The lowest row that applies is returned, with length 0. Everything lent is untouched; of the drive only mark and
+    // outlived entries change."
+    let rows = rows_that_apply(drive, frame, space.len());
+    if !rows.is_empty() {
+        return (rows, 0);
+    }
+    let reply = grant(drive, medium, frame);
+    space[..reply.len()].copy_from_slice(&reply); // "In any space written, later bytes keep their values."
+    (rows, reply.len())
+}
+
+/// Rows 2 to 23 that apply, in order. The drive's mark and memories are already those of this call.
+fn rows_that_apply(drive: &Drive, frame: &[u8], space: usize) -> Vec<u8> {
+    // "2. The frame is under 96 bytes."
+    if frame.len() < 96 {
+        return vec![2];
+    }
+    // "Frame: credential, request, n data bytes, 32 digest bytes."
+    let c = Credential::read(&frame[..36]);
+    let r = Request::read(&frame[36..64]);
+    let (signed_all, digest) = frame.split_at(frame.len() - 32);
+    // "The digest is HMAC under the credential key over credential and request, and the data too from level 1."
+    let signed = if r.level >= 1 { signed_all } else { &frame[..64] };
+
+    let op = r.operation;
+    let none = Partition::default();
+    let partition = drive.partitions.get(c.partition as usize).unwrap_or(&none);
+    let object = partition.find(c.object);
+    let nothing = Vec::new();
+    let memory = drive.memory(c.slot, c.partition).unwrap_or(&nothing);
+    let key = drive.key(c.slot, c.partition);
+    let nonce = Nonce { slot: c.slot, holder: c.holder, time: r.time, count: r.count };
+
+    // "Sums in rules are whole numbers and never wrap."
+    let mark = drive.mark as u128;
+    let t = r.time as u128;
+    let a_plus_b = r.a as u64 + r.b as u64;
+    let reads_or_writes = op == READ || op == WRITE;
+
+    let rows = [
+        // Bytes 0–1 or 36–37 are not the marks.
+        (3, row_3(&c, &r)),
+        // A field is outside the values above.
+        (4, row_4(&c, &r)),
+        // n is not 0, B, 16 by the operation, or the frame is not as long as its parts together, 96 + n bytes.
+        (5, row_5_records(&r) || frame.len() as u64 != 96 + r.n as u64),
+        // Operation misfits.
+        (6, row_6(&c, &r)),
+        // The level is under the credential's least, or is 0 with operation 7.
+        (7, row_7(&c, &r)),
+        // The named key was never set.
+        (8, key.is_none()),
+        // The digest differs.
+        (9, key.is_some_and(|k| hmac(&hmac(&k, &frame[..36]), signed) != digest)),
+        // The mark is over the expiry.
+        (10, drive.mark > c.expiry),
+        // T + 5,000 is under the mark, or T is over the mark + 5,000.
+        (11, t + 5_000 < mark || t > mark + 5_000),
+        // Its memory holds the nonce.
+        (12, memory.contains(&nonce)),
+        // The right is missing. "Operation k needs rights bit k − 1."
+        (13, (1..=7).contains(&op) && (c.rights >> (op - 1)) & 1 == 0),
+        // The object, not 0, does not exist in the partition.
+        (14, c.object != 0 && object.is_none()),
+        // Operations 1–6: the version is not the present one.
+        (15, (1..=6).contains(&op) && partition.present_version(c.object).is_some_and(|v| v != c.version)),
+        // Operations 1, 2: not (first ≤ A and A + B ≤ end).
+        (16, reads_or_writes && !(c.first <= r.a && a_plus_b <= c.end as u64)),
+        // Operations 1, 2: A + B is over the size.
+        (17, reads_or_writes && object.is_some_and(|o| a_plus_b > o.size as u64)),
+        // Create: the number is taken.
+        (18, op == CREATE && partition.find(r.a).is_some()),
+        // Create: 16 objects exist.
+        (19, op == CREATE && partition.objects.len() >= MOST_OBJECTS),
+        // Create: no gap has B bytes.
+        (20, op == CREATE && chosen_start(drive.quarter(), &areas(&partition.objects), r.b).is_none()),
+        // Operations 4, 5: the partition has given version 4,294,967,295.
+        (21, (op == RAISE || op == CREATE) && partition.last_given == u32::MAX),
+        // The memory holds 64 entries; here and in row 12 outlived entries have gone first.
+        (22, memory.len() >= MOST_ENTRIES),
+        // The reply space is too short.
+        (23, (space as u64) < r.reply_length()),
+    ];
+    rows.into_iter().filter(|(_, applies)| *applies).map(|(row, _)| row).collect()
+}
+
+/// What a grant does. No row applies, so every field is within its values.
+fn grant(drive: &mut Drive, medium: &mut [u8], frame: &[u8]) -> Vec<u8> {
+    let c = Credential::read(&frame[..36]);
+    let r = Request::read(&frame[36..64]);
+    let data = &frame[64..frame.len() - 32];
+    let p = c.partition as usize;
+    let signing_key = drive.key(c.slot, c.partition).unwrap();
+    let credential_key = hmac(&signing_key, &frame[..36]);
+    let quarter = drive.quarter();
+
+    let result: Vec<u8> = match r.operation {
+        // "Read: A offset, B length, both within the object; result the B bytes."
+        READ => {
+            let from = drive.place(p, drive.partitions[p].find(c.object).unwrap().start + r.a);
+            medium[from..from + r.b as usize].to_vec()
+        }
+        // "Write: A offset, B = n .. Result empty."
+        WRITE => {
+            let from = drive.place(p, drive.partitions[p].find(c.object).unwrap().start + r.a);
+            medium[from..from + r.b as usize].copy_from_slice(data);
+            vec![]
+        }
+        // "Look: result size (the quarter's for object 0) and version, four bytes each."
+        LOOK => {
+            let size = drive.partitions[p].find(c.object).map_or(quarter, |o| o.size);
+            let version = drive.partitions[p].present_version(c.object).unwrap();
+            [size.to_be_bytes(), version.to_be_bytes()].concat()
+        }
+        // "Raise: object or partition gets the next version; result that version in four bytes."
+        RAISE => {
+            let partition = &mut drive.partitions[p];
+            partition.last_given += 1;
+            match partition.objects.iter_mut().find(|o| o.number == c.object) {
+                Some(object) => object.version = partition.last_given,
+                None => partition.version = partition.last_given,
+            }
+            partition.last_given.to_be_bytes().to_vec()
+        }
+        // "Create, on object 0: A new number, B size .. The area .. is zeroed. It gets the next version; result that version
+        // in four bytes."
+        CREATE => {
+            let start = chosen_start(quarter, &areas(&drive.partitions[p].objects), r.b).unwrap();
+            let from = drive.place(p, start);
+            medium[from..from + r.b as usize].fill(0);
+            let partition = &mut drive.partitions[p];
+            partition.last_given += 1;
+            partition.objects.push(Object { number: r.a, version: partition.last_given, start, size: r.b });
+            partition.last_given.to_be_bytes().to_vec()
+        }
+        // "Delete: the object goes; its bytes are free again. Result empty."
+        DELETE => {
+            drive.partitions[p].objects.retain(|o| o.number != c.object);
+            vec![]
+        }
+        // "Set key: data is a 16-byte seed. Slot 4 sets the drive key, slot 3 partition A's key, slot 2 working key A (0 or
+        // 1). New key = HMAC(key in the signing slot, request and seed). Result empty; lower keys keep their values."
+        SET_KEY => {
+            let new_key = Some(hmac(&signing_key, &frame[36..80]));
+            match c.slot {
+                4 => drive.drive = new_key,
+                3 => drive.partitions[r.a as usize].key = new_key,
+                _ => drive.partitions[p].working[r.a as usize] = new_key,
+            }
+            vec![]
+        }
+        _ => unreachable!(),
+    };
+
+    // "A grant enters (slot, holder, T, count)."
+    let nonce = Nonce { slot: c.slot, holder: c.holder, time: r.time, count: r.count };
+    drive.memory_mut(c.slot, c.partition).push(nonce);
+
+    // "Reply: mark 4C 41, operation, level, result length (four bytes), result; at level 2, then HMAC under the credential key
+    // over credential, request, those 8 bytes and result."
+    let mut reply = REPLY_MARK.to_vec();
+    reply.extend([r.operation, r.level]);
+    reply.extend((result.len() as u32).to_be_bytes());
+    reply.extend(&result);
+    if r.level == 2 {
+        let digest = hmac(&credential_key, &[&frame[..64], &reply].concat());
+        reply.extend(digest);
+    }
+    reply
+}
+
+#[cfg(test)]
+mod tests {
+    use super::*;
+    use crate::client::{build, issue};
+
+    /// A drive of one 100 byte quarter after another, with black key of partition 0 set by hand and one object.
+    fn drive() -> (Drive, Vec<u8>) {
+        let mut medium = vec![0; 400];
+        let (row, mut drive) = format(&mut medium, 1, &[0; 32], &[1; 32]);
+        assert_eq!(row, 0);
+        drive.partitions[0].working[0] = Some([5; 32]);
+        drive.partitions[0].last_given = 2;
+        drive.partitions[0].objects.push(Object { number: 9, version: 2, start: 30, size: 40 });
+        (drive, medium)
+    }
+
+    fn credential() -> Credential {
+        Credential {
+            mark: CREDENTIAL_MARK,
+            partition: 0,
+            slot: 0,
+            object: 9,
+            version: 2,
+            rights: 0x7f,
+            least: 0,
+            zero: 0,
+            first: 0,
+            end: 100,
+            expiry: u64::MAX,
+            holder: 1,
+        }
+    }
+
+    fn request(operation: u8, a: u32, b: u32) -> Request {
+        let n = if operation == WRITE { b } else { 0 };
+        Request { mark: REQUEST_MARK, operation, level: 2, time: 10_000, count: 0, a, b, n }
+    }
+
+    fn frame(c: &Credential, r: &Request, data: &[u8]) -> Vec<u8> {
+        let mut record = [0; 36];
+        let (row, key) = issue(&[5; 32], c, &mut record);
+        assert_eq!(row, 0);
+        let mut space = vec![0; 96 + data.len()];
+        assert_eq!(build(&record, &r.bytes(), data, &key, &mut space), (0, 96 + data.len()));
+        space
+    }
+
+    fn row_of(c: &Credential, r: &Request) -> u8 {
+        let (mut drive, mut medium) = drive();
+        gate(&mut drive, &mut medium, &frame(c, r, &vec![7; r.n as usize]), 10_000, &mut [0; 200]).0
+    }
+
+    /// "mark 10,000: T = 5,000 and 15,000 pass row 11; 4,999 and 15,001 do not".
+    #[test]
+    fn table_of_cases_row_11() {
+        let at = |time| row_of(&credential(), &Request { time, ..request(LOOK, 0, 0) });
+        assert_eq!([at(5_000), at(15_000), at(4_999), at(15_001)], [0, 0, 11, 11]);
+    }
+
+    /// "mark 10,000: expiry 10,000 passes row 10, 9,999 does not".
+    #[test]
+    fn table_of_cases_row_10() {
+        let at = |expiry| row_of(&Credential { expiry, ..credential() }, &request(LOOK, 0, 0));
+        assert_eq!([at(10_000), at(9_999)], [0, 10]);
+    }
+
+    /// "first 8, end 16: (A, B) = (8, 8), (16, 0) pass row 16; (8, 9), (17, 0) do not".
+    #[test]
+    fn table_of_cases_row_16() {
+        let c = Credential { first: 8, end: 16, ..credential() };
+        for op in [READ, WRITE] {
+            let at = |a, b| row_of(&c, &request(op, a, b));
+            assert_eq!([at(8, 8), at(16, 0), at(8, 9), at(17, 0)], [0, 0, 16, 16]);
+        }
+    }
+
+    /// "Forgetting a nonce when T + 5,000 equals the mark: the frame passes again."
+    #[test]
+    fn nonce_at_the_edge() {
+        let (mut drive, mut medium) = drive();
+        let f = frame(&credential(), &request(LOOK, 0, 0), &[]);
+        let mut put = |clock| gate(&mut drive, &mut medium, &f, clock, &mut [0; 200]).0;
+        assert_eq!([put(10_000), put(10_000), put(15_000), put(15_001)], [0, 12, 12, 11]);
+    }
+
+    #[test]
+    fn row_1_leaves_the_mark() {
+        let (mut drive, mut medium) = drive();
+        let before = drive.clone();
+        assert_eq!(gate(&mut drive, &mut medium[..399], &[], 5, &mut []), (1, 0));
+        assert_eq!(drive, before);
+        drive.partitions[0].objects[0].number = 0;
+        let before = drive.clone();
+        assert_eq!(gate(&mut drive, &mut medium, &[], 5, &mut []), (1, 0));
+        assert_eq!(drive, before);
+    }
+
+    #[test]
+    fn a_write_is_read_back() {
+        let (mut drive, mut medium) = drive();
+        let mut space = [9; 60];
+        let mut put = |r: &Request, data: &[u8], medium: &mut Vec<u8>| {
+            gate(&mut drive, medium, &frame(&credential(), r, data), 10_000, &mut space)
+        };
+        assert_eq!(put(&request(WRITE, 2, 3), &[1, 2, 3], &mut medium), (0, 40));
+        let read = Request { level: 1, count: 1, ..request(READ, 1, 5) };
+        assert_eq!(put(&read, &[], &mut medium), (0, 13));
+        assert_eq!(space[..13], [0x4c, 0x41, 1, 1, 0, 0, 0, 5, 0, 1, 2, 3, 0]);
+        assert_eq!(medium[31..37], [0, 1, 2, 3, 0, 0]);
+    }
+}

@@ -1,0 +1,134 @@
+//! "The ledger of demand 3": what the list of calls itself says, "nothing comes from the drive record". The tests keep one beside
+//! the model's drive and hold every call to demand 3's sentences.
+
+use crate::digest::hmac;
+use crate::drive::{areas, chosen_start, Drive, Key, Object};
+use crate::records::*;
+use std::collections::HashSet;
+
+pub struct Ledger {
+    quarter: u32,
+    mark: u64,
+    master: Key,
+    drive: Key,
+    partitions: Vec<Page>,
+    grants: HashSet<(u8, u8, u32, u64, u32)>, // every grant's nonce memory, slot, holder, time and count
+}
+
+#[derive(Clone)]
+struct Page {
+    key: Option<Key>,
+    working: [Option<Key>; 2],
+    version: u32,
+    last_given: u32,
+    objects: Vec<(Object, Vec<u8>)>, // "each with number, version, area and bytes"
+}
+
+impl Ledger {
+    /// "Start: mark 0; master and drive key set, no other; each partition's version and last given are F; no object."
+    pub fn new(m: usize, f: u32, master: Key, drive: Key) -> Ledger {
+        let page = Page { key: None, working: [None; 2], version: f, last_given: f, objects: vec![] };
+        Ledger { quarter: (m / 4) as u32, mark: 0, master, drive, partitions: vec![page; 4], grants: HashSet::new() }
+    }
+
+    /// Feeds one call that was not refused by row 1, and checks the grant against the sentences of demand 3. `reply` is the
+    /// reply written.
+    pub fn call(&mut self, frame: &[u8], clock: u64, row: u8, reply: &[u8]) {
+        // "Every call: the mark becomes the larger of itself and the clock reading. A refused call does no more."
+        self.mark = self.mark.max(clock);
+        if row != 0 {
+            return;
+        }
+        let c = Credential::read(&frame[..36]);
+        let r = Request::read(&frame[36..64]);
+        let data = &frame[64..frame.len() - 32];
+        let mark = self.mark;
+        let key = match c.slot {
+            4 => Some(self.master),
+            3 => Some(self.drive),
+            2 => self.partitions[c.partition as usize].key,
+            s => self.partitions[c.partition as usize].working[s as usize],
+        };
+
+        // "No two grants in the whole list share nonce memory, key slot, holder, time and count."
+        let memory = if c.slot >= 3 { 4 } else { c.partition };
+        let fresh = self.grants.insert((memory, c.slot, c.holder, r.time, r.count));
+        assert!(fresh, "a nonce is granted twice");
+
+        // "Rights, expiry, range, key and version are kept when none of rows 8–10 and 13–17 applies".
+        let key = key.expect("row 8");
+        let signed = if r.level > 0 { &frame[..frame.len() - 32] } else { &frame[..64] };
+        assert_eq!(hmac(&hmac(&key, &frame[..36]), signed), frame[frame.len() - 32..], "row 9");
+        assert!(mark <= c.expiry, "row 10");
+        assert!(c.rights & (1 << (r.operation - 1)) != 0, "row 13");
+        let page = &mut self.partitions[c.partition as usize];
+        let at = page.objects.iter().position(|(o, _)| o.number == c.object);
+        assert!(c.object == 0 || at.is_some(), "row 14");
+        let sum = r.a as u64 + r.b as u64;
+        if r.operation <= 6 {
+            let version = at.map_or(page.version, |i| page.objects[i].0.version);
+            assert_eq!(c.version, version, "row 15");
+        }
+        if r.operation <= 2 {
+            assert!(c.first <= r.a && sum <= c.end as u64, "row 16");
+            assert!(sum <= page.objects[at.unwrap()].1.len() as u64, "row 17");
+        }
+
+        let (a, b) = (r.a as usize, r.b as usize);
+        match r.operation {
+            // "A granted read's result is the bytes from A up to A + B of the ledger's object."
+            READ => assert_eq!(reply[8..8 + b], page.objects[at.unwrap()].1[a..a + b], "a read shows other bytes"),
+            LOOK => {}
+            // "the data replaces the object's bytes from A up to A + B"
+            WRITE => page.objects[at.unwrap()].1[a..a + b].copy_from_slice(data),
+            // "last given rises by one; the object, or for object 0 the partition, has it as version"
+            RAISE => {
+                page.last_given += 1;
+                match at {
+                    Some(i) => page.objects[i].0.version = page.last_given,
+                    None => page.version = page.last_given,
+                }
+            }
+            // "last given rises by one; object A joins, with it as version, the area that operation 5 finds among the
+            // partition's areas in the ledger, and B zero bytes"
+            CREATE => {
+                page.last_given += 1;
+                let objects: Vec<Object> = page.objects.iter().map(|(o, _)| o.clone()).collect();
+                let start = chosen_start(self.quarter, &areas(&objects), r.b).unwrap();
+                let object = Object { number: r.a, version: page.last_given, start, size: r.b };
+                page.objects.push((object, vec![0; b]));
+            }
+            // "the object leaves"
+            DELETE => {
+                page.objects.remove(at.unwrap());
+            }
+            // "keys change by operation 7, from the ledger's signing key"
+            _ => {
+                let new = hmac(&key, &frame[36..80]);
+                match c.slot {
+                    4 => self.drive = new,
+                    3 => self.partitions[a].key = Some(new),
+                    _ => self.partitions[c.partition as usize].working[a] = Some(new),
+                }
+            }
+        }
+    }
+
+    /// "After every call the drive's mark, keys, versions, last versions given and objects are the ledger's, objects in its
+    /// order, and each object's area of the medium holds its bytes in the ledger."
+    pub fn agrees(&self, drive: &Drive, medium: &[u8]) {
+        assert_eq!(drive.mark, self.mark);
+        assert_eq!((drive.master, drive.drive), (Some(self.master), Some(self.drive)));
+        for (p, page) in self.partitions.iter().enumerate() {
+            let real = &drive.partitions[p];
+            assert_eq!((real.key, real.working), (page.key, page.working));
+            assert_eq!((real.version, real.last_given), (page.version, page.last_given));
+            assert!(real.objects.iter().eq(page.objects.iter().map(|(o, _)| o)));
+            for (o, bytes) in &page.objects {
+                let from = p * self.quarter as usize + o.start as usize;
+                assert_eq!(medium[from..from + o.size as usize], bytes[..]);
+            }
+        }
+        assert!(drive.sound());
+    }
+}

@@ -1,0 +1,20 @@
+//! Document 01 written a second time, in plain Rust, from the paper alone.
+//!
+//! It shares no line with the proved drive and was not written from its code or definitions. It is slow, allocates freely and is
+//! meant to be read beside the paper: what stands in quotation marks is the paper's own sentence, and below it is what it does.
+//!
+//! Read in this order: [`digest`], [`records`] (layouts, rows 3 to 7), [`drive`] (state, placing rule, rows 24 to 26), [`gate`]
+//! (rows 1 to 23 and the operations), [`client`] (issuer, builder, reply check: rows 26, 28 to 30), [`ledger`] (demand 3's).
+//! [`rng`] and [`traffic`] make the random calls of the tests.
+//!
+//! Build: `cargo build --release --offline`; or without cargo:
+//! `rustc --edition 2021 -O --crate-type lib --crate-name model src/lib.rs --out-dir OUT`, then for each program
+//! `rustc --edition 2021 -O src/bin/NAME.rs --extern model=OUT/libmodel.rlib --out-dir OUT`.
+
+pub mod client;
+pub mod digest;
+pub mod drive;
+pub mod gate;
+pub mod ledger;
+pub mod records;
+pub mod rng;

@@ -1,0 +1,207 @@
+//! The two records of a frame, and what they say by themselves: rows 3 to 7.
+
+/// "Credential, 36 bytes". Any 36 bytes are one of these, and back: the mark and the zero byte are kept as fields.
+#[derive(Clone, Debug, PartialEq, Eq)]
+pub struct Credential {
+    pub mark: [u8; 2],  // 0–1 mark 4C 43
+    pub partition: u8,  // 2 partition 0–3
+    pub slot: u8,       // 3 key slot (0 black, 1 gold, 2 partition key, 3 drive key, 4 master key)
+    pub object: u32,    // 4–7 object, 0 meaning the partition
+    pub version: u32,   // 8–11 version
+    pub rights: u16,    // 12–13 rights (bit k, counted from the lowest, k = 0–6)
+    pub least: u8,      // 14 least level 0–2
+    pub zero: u8,       // 15 zero
+    pub first: u32,     // 16–19 first
+    pub end: u32,       // 20–23 end, exclusive
+    pub expiry: u64,    // 24–31 expiry, milliseconds
+    pub holder: u32,    // 32–35 holder, the client's number
+}
+
+/// "Request, 28 bytes".
+#[derive(Clone, Debug, PartialEq, Eq)]
+pub struct Request {
+    pub mark: [u8; 2], // 0–1 mark 4C 52
+    pub operation: u8, // 2 operation 1–7
+    pub level: u8,     // 3 level 0–2
+    pub time: u64,     // 4–11 time T, milliseconds
+    pub count: u32,    // 12–15 count
+    pub a: u32,        // 16–19 A
+    pub b: u32,        // 20–23 B
+    pub n: u32,        // 24–27 data length n, at most 1,048,576
+}
+
+pub const CREDENTIAL_MARK: [u8; 2] = [0x4c, 0x43];
+pub const REQUEST_MARK: [u8; 2] = [0x4c, 0x52];
+pub const REPLY_MARK: [u8; 2] = [0x4c, 0x41];
+
+pub const READ: u8 = 1;
+pub const WRITE: u8 = 2;
+pub const LOOK: u8 = 3;
+pub const RAISE: u8 = 4;
+pub const CREATE: u8 = 5;
+pub const DELETE: u8 = 6;
+pub const SET_KEY: u8 = 7;
+
+fn four(bytes: &[u8], at: usize) -> u32 {
+    u32::from_be_bytes(bytes[at..at + 4].try_into().unwrap())
+}
+
+fn eight(bytes: &[u8], at: usize) -> u64 {
+    u64::from_be_bytes(bytes[at..at + 8].try_into().unwrap())
+}
+
+impl Credential {
+    /// Of exactly 36 bytes.
+    pub fn read(bytes: &[u8]) -> Credential {
+        assert_eq!(bytes.len(), 36);
+        Credential {
+            mark: [bytes[0], bytes[1]],
+            partition: bytes[2],
+            slot: bytes[3],
+            object: four(bytes, 4),
+            version: four(bytes, 8),
+            rights: u16::from_be_bytes([bytes[12], bytes[13]]),
+            least: bytes[14],
+            zero: bytes[15],
+            first: four(bytes, 16),
+            end: four(bytes, 20),
+            expiry: eight(bytes, 24),
+            holder: four(bytes, 32),
+        }
+    }
+
+    pub fn bytes(&self) -> Vec<u8> {
+        let mut out = self.mark.to_vec();
+        out.extend([self.partition, self.slot]);
+        out.extend(self.object.to_be_bytes());
+        out.extend(self.version.to_be_bytes());
+        out.extend(self.rights.to_be_bytes());
+        out.extend([self.least, self.zero]);
+        out.extend(self.first.to_be_bytes());
+        out.extend(self.end.to_be_bytes());
+        out.extend(self.expiry.to_be_bytes());
+        out.extend(self.holder.to_be_bytes());
+        out
+    }
+}
+
+impl Request {
+    /// Of exactly 28 bytes.
+    pub fn read(bytes: &[u8]) -> Request {
+        assert_eq!(bytes.len(), 28);
+        Request {
+            mark: [bytes[0], bytes[1]],
+            operation: bytes[2],
+            level: bytes[3],
+            time: eight(bytes, 4),
+            count: four(bytes, 12),
+            a: four(bytes, 16),
+            b: four(bytes, 20),
+            n: four(bytes, 24),
+        }
+    }
+
+    pub fn bytes(&self) -> Vec<u8> {
+        let mut out = self.mark.to_vec();
+        out.extend([self.operation, self.level]);
+        out.extend(self.time.to_be_bytes());
+        out.extend(self.count.to_be_bytes());
+        out.extend(self.a.to_be_bytes());
+        out.extend(self.b.to_be_bytes());
+        out.extend(self.n.to_be_bytes());
+        out
+    }
+
+    /// How long the result is that this request calls for.
+    pub fn result_length(&self) -> u64 {
+        match self.operation {
+            READ => self.b as u64, // "result the B bytes"
+            LOOK => 8,             // "result size .. and version, four bytes each"
+            RAISE | CREATE => 4,   // "result that version in four bytes"
+            _ => 0,                // "Result empty"
+        }
+    }
+
+    /// How long the whole reply is: 8 bytes, the result, and 32 of digest at level 2.
+    pub fn reply_length(&self) -> u64 {
+        8 + self.result_length() + if self.level == 2 { 32 } else { 0 }
+    }
+}
+
+/// Row 3, the credential's half of "Bytes 0–1 or 36–37 are not the marks".
+pub fn row_3_credential(c: &Credential) -> bool {
+    c.mark != CREDENTIAL_MARK
+}
+
+/// Row 3.
+pub fn row_3(c: &Credential, r: &Request) -> bool {
+    row_3_credential(c) || r.mark != REQUEST_MARK
+}
+
+/// Row 4, the credential's fields: "A field is outside the values above, including rights bits 7–15 set and slot 3 or 4 with
+/// partition not 0".
+pub fn row_4_credential(c: &Credential) -> bool {
+    c.partition > 3
+        || c.slot > 4
+        || c.rights >> 7 != 0
+        || c.least > 2
+        || c.zero != 0
+        || ((c.slot == 3 || c.slot == 4) && c.partition != 0)
+}
+
+/// Row 4.
+pub fn row_4(c: &Credential, r: &Request) -> bool {
+    row_4_credential(c) || r.operation < 1 || r.operation > 7 || r.level > 2 || r.n > 1_048_576
+}
+
+/// Row 5, the half that the records show: "n is not 0 for operations 1 and 3–6, B for 2, 16 for 7".
+pub fn row_5_records(r: &Request) -> bool {
+    match r.operation {
+        1 | 3 | 4 | 5 | 6 => r.n != 0,
+        2 => r.n != r.b,
+        7 => r.n != 16,
+        _ => false,
+    }
+}
+
+/// Row 6: "Operation misfits".
+pub fn row_6(c: &Credential, r: &Request) -> bool {
+    let op = r.operation;
+    // "1–6 with slot over 1; 7 with slot under 2 or version not 0"
+    ((1..=6).contains(&op) && c.slot > 1)
+        || (op == 7 && (c.slot < 2 || c.version != 0))
+        // "1, 2, 6 on object 0; 5, 7 elsewhere"
+        || (matches!(op, 1 | 2 | 6) && c.object == 0)
+        || (matches!(op, 5 | 7) && c.object != 0)
+        // "3, 4, 6 with A or B not 0; 5 with A or B 0"
+        || (matches!(op, 3 | 4 | 6) && (r.a != 0 || r.b != 0))
+        || (op == 5 && (r.a == 0 || r.b == 0))
+        // "7 with B not 0, or A over 1, 3, 0 for slots 2, 3, 4"
+        || (op == 7 && r.b != 0)
+        || (op == 7 && c.slot == 2 && r.a > 1)
+        || (op == 7 && c.slot == 3 && r.a > 3)
+        || (op == 7 && c.slot == 4 && r.a > 0)
+}
+
+/// Row 7: "The level is under the credential's least, or is 0 with operation 7."
+pub fn row_7(c: &Credential, r: &Request) -> bool {
+    r.level < c.least || (r.level == 0 && r.operation == 7)
+}
+
+/// "one of rows 3–7 met by the records", for builder and reply check.
+pub fn records_refused(c: &Credential, r: &Request) -> bool {
+    row_3(c, r) || row_4(c, r) || row_5_records(r) || row_6(c, r) || row_7(c, r)
+}
+
+#[cfg(test)]
+mod tests {
+    use super::*;
+
+    #[test]
+    fn records_read_back() {
+        let bytes: Vec<u8> = (100..136).collect();
+        assert_eq!(Credential::read(&bytes).bytes(), bytes);
+        let bytes: Vec<u8> = (100..128).collect();
+        assert_eq!(Request::read(&bytes).bytes(), bytes);
+    }
+}
