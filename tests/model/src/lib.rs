@@ -18,3 +18,4 @@ pub mod gate;
 pub mod ledger;
 pub mod records;
 pub mod rng;
+pub mod traffic;
