@@ -222,8 +222,8 @@ impl<'a> Traffic<'a> {
         if !self.library {
             return (self.drive.size, 65_536, 0);
         }
-        let needed =
-            if frame.len() < 96 { 8 } else { Request::read(&frame[36..64]).reply_length().min(70_000) as usize };
+        let asked = if frame.len() < 96 { 8 } else { Request::read(&frame[36..64]).reply_length() };
+        let needed = if asked > 20_000 && self.rng.chance(97) { 48 } else { asked.min(70_000) as usize };
         let short = replace(&mut self.short, false);
         let space = if short {
             match self.rng.below(4) {
@@ -477,7 +477,8 @@ impl<'a> Traffic<'a> {
 
     /// Offset and length within a size, at its edges.
     fn range(&mut self, size: u32, write: bool) -> (u32, u32) {
-        let most = if write && !self.rng.chance(1) { 48 } else { size };
+        let (whole, part) = if write { (1, 48) } else { (25, 200) };
+        let most = if self.rng.chance(whole) { size } else { part };
         match self.rng.below(7) {
             0 => (0, size.min(most)),
             1 => (size, 0),
@@ -510,7 +511,7 @@ impl<'a> Traffic<'a> {
             1 if gaps.len() > 1 => gap - 1,
             3 => 1 + self.rng.below((gap as u64 / 4).min(2_000) + 1) as u32,
             4 => 1 + self.rng.below(gap as u64) as u32,
-            _ => 1 + self.rng.below(60) as u32,
+            _ => 1 + self.rng.below((self.drive.quarter() as u64 / 20).min(60)) as u32,
         };
         (number, size.clamp(1, gap))
     }
