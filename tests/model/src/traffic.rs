@@ -616,17 +616,17 @@ impl<'a> Traffic<'a> {
                 7 => d.r.operation = self.rng.pick(&[0, 8, 9, 128, 255]),
                 8 => d.r.level = self.rng.pick(&[3, 4, 255]),
                 9 => d.r.n = self.rng.pick(&[1_048_577, 0x0100_0000, u32::MAX]),
-                _ => d.r.n += 0x0100_0000,
+                _ => d.r.n = d.r.n.wrapping_add(0x0100_0000),
             },
             5 => match any % 8 {
                 0 => d.cut = 1, // may fall under 96: then it is row 2
                 1 => d.add = 1 + self.rng.below(40) as usize,
-                2 => d.r.n = self.rng.pick(&[1_048_576, d.r.n + 1, d.r.n.saturating_sub(1), 65_440]),
+                2 => d.r.n = self.rng.pick(&[1_048_576, d.r.n.wrapping_add(1), d.r.n.wrapping_sub(1), 65_440]),
                 3 => d.data.push(any as u8), // longer than n says
                 4 if op == WRITE => d.r.b = d.r.b.wrapping_add(self.rng.pick(&[1, u32::MAX, 0x0001_0000])),
                 5 if op == WRITE && d.data.len() > 1 => {
                     d.data.pop(); // n is the data's length, and B is not
-                    d.r.n -= 1;
+                    d.r.n = d.r.n.wrapping_sub(1);
                 }
                 _ => {
                     let more = 1 + self.rng.below(20) as usize;

@@ -1,0 +1,292 @@
+//! `cases SEED COUNT OUT`: cases for the builder and the reply check as C has them, with the model's answers. Prints the counts.
+//!
+//! # The file
+//!
+//! Cases one after another until the file ends, each a head of 40 bytes and then its parts. Numbers are unsigned and big-endian.
+//! ```text
+//!  0       42 (B): sievelast_build; 4B (K): sievelast_check
+//!  1       fill: every byte of the space is set to it before a build
+//!  2 –  3  0
+//!  4 –  7  credential length
+//!  8 – 11  request length
+//! 12 – 15  key length
+//! 16 – 19  data length for a build, reply length for a check
+//! 20 – 23  space length for a build, 0 for a check
+//! 24 – 27  row expected
+//! 28 – 31  start expected of a check, 0 for a build
+//! 32 – 35  length expected
+//! 36 – 39  0
+//! 40 ..    credential, request, key, data or reply; then for a build as many bytes of frame as the length expected
+//! ```
+//! After a build the space must hold those bytes of frame and, behind them, the fill; refused, the fill alone. Nothing else may change.
+
+use model::client::{build, check, issue};
+use model::digest::hmac;
+use model::records::*;
+use model::rng::Rng;
+use std::collections::BTreeMap;
+use std::fs::write;
+
+/// Two records that rows 3 to 7 let through.
+fn valid(rng: &mut Rng) -> (Credential, Request) {
+    let operation = 1 + rng.below(7) as u8;
+    let slot = if operation == SET_KEY { 2 + rng.below(3) as u8 } else { rng.below(2) as u8 };
+    let level = if operation == SET_KEY { 1 + rng.below(2) } else { rng.below(3) } as u8;
+    let object = match operation {
+        CREATE | SET_KEY => 0,
+        LOOK | RAISE => rng.below(3) as u32,
+        _ => 1 + rng.below(u32::MAX as u64) as u32,
+    };
+    let (a, b) = match operation {
+        READ | WRITE => (rng.next() as u32, rng.below(300) as u32),
+        CREATE => (1 + rng.below(u32::MAX as u64) as u32, 1 + rng.below(u32::MAX as u64) as u32),
+        SET_KEY => (rng.below([2, 4, 1][slot as usize - 2]) as u32, 0),
+        _ => (0, 0),
+    };
+    let n = match operation {
+        WRITE => b,
+        SET_KEY => 16,
+        _ => 0,
+    };
+    let c = Credential {
+        mark: CREDENTIAL_MARK,
+        partition: if slot >= 3 { 0 } else { rng.below(4) as u8 },
+        slot,
+        object,
+        version: if operation == SET_KEY { 0 } else { rng.next() as u32 },
+        rights: rng.next() as u16 & 0x7f,
+        least: rng.below(level as u64 + 1) as u8,
+        zero: 0,
+        first: rng.next() as u32,
+        end: rng.next() as u32,
+        expiry: rng.next(),
+        holder: rng.next() as u32,
+    };
+    let r = Request { mark: REQUEST_MARK, operation, level, time: rng.next(), count: rng.next() as u32, a, b, n };
+    (c, r)
+}
+
+/// One field given another value, near its edges: it may stay valid.
+fn damage(rng: &mut Rng, c: &mut Credential, r: &mut Request) {
+    let bit = 1u8 << rng.below(8);
+    let high = 1u32 << rng.below(32);
+    match rng.below(17) {
+        0 => c.mark[rng.below(2) as usize] ^= bit,
+        1 => r.mark[rng.below(2) as usize] ^= bit,
+        2 => c.partition = rng.pick(&[0, 1, 3, 4, 255]),
+        3 => c.slot = rng.pick(&[0, 1, 2, 3, 4, 5, 255]),
+        4 => c.object = rng.pick(&[0, 1, u32::MAX]),
+        5 => c.version = rng.pick(&[0, 1, high]),
+        6 => c.rights |= 1 << rng.below(16),
+        7 => c.least = rng.pick(&[0, 1, 2, 3, 255]),
+        8 => c.zero = bit,
+        9 => r.operation = rng.pick(&[0, 1, 2, 3, 4, 5, 6, 7, 8, 255]),
+        10 => r.level = rng.pick(&[0, 1, 2, 3, 255]),
+        11 => r.a = rng.pick(&[0, 1, 2, 3, 4, high, u32::MAX]),
+        12 => r.b = rng.pick(&[0, 1, r.n, high, u32::MAX]),
+        13 => r.n = rng.pick(&[0, 15, 16, 17, r.n.wrapping_add(1), 1_048_576, 1_048_577, u32::MAX]),
+        14 => (c.slot, c.partition) = (3 + rng.below(2) as u8, rng.below(4) as u8),
+        15 => r.b = rng.pick(&[4_194_304, 4_194_305]),
+        _ => (c.least, r.level) = (1 + rng.below(2) as u8, rng.below(2) as u8),
+    }
+}
+
+/// Why the records are refused, for the counts: the lowest of rows 3 to 7.
+fn reason(c: &Credential, r: &Request) -> u8 {
+    let rows = [(3, row_3(c, r)), (4, row_4(c, r)), (5, row_5_records(r)), (6, row_6(c, r)), (7, row_7(c, r))];
+    rows.iter().find(|(_, met)| *met).map_or(0, |(row, _)| *row)
+}
+
+/// A record or key that is not as long as it must be, now and then.
+fn misfit(rng: &mut Rng, bytes: &mut Vec<u8>) {
+    let right = bytes.len();
+    let length = rng.pick(&[0, 1, right - 1, right + 1, 2 * right]);
+    bytes.resize(length, 0x4c);
+}
+
+struct Parts {
+    credential: Vec<u8>,
+    request: Vec<u8>,
+    key: Vec<u8>,
+    data: Vec<u8>, // a build's data, a check's reply
+}
+
+fn put(out: &mut Vec<u8>, kind: u8, fill: u8, parts: &Parts, space: usize, row: u8, start: usize, length: usize) {
+    out.extend([kind, fill, 0, 0]);
+    let lengths = [parts.credential.len(), parts.request.len(), parts.key.len(), parts.data.len(), space];
+    for number in lengths.into_iter().chain([row as usize, start, length, 0]) {
+        out.extend((number as u32).to_be_bytes());
+    }
+    for part in [&parts.credential, &parts.request, &parts.key, &parts.data] {
+        out.extend(part);
+    }
+}
+
+fn build_case(out: &mut Vec<u8>, rng: &mut Rng, parts: &Parts, space: usize) -> u8 {
+    let fill = rng.next() as u8;
+    let mut frame = vec![fill; space];
+    let (row, length) = build(&parts.credential, &parts.request, &parts.data, &parts.key, &mut frame);
+    assert!(frame[length..].iter().all(|b| *b == fill));
+    put(out, b'B', fill, parts, space, row, 0, length);
+    out.extend(&frame[..length]);
+    row
+}
+
+fn check_case(out: &mut Vec<u8>, parts: &Parts) -> u8 {
+    let (row, start, length) = check(&parts.credential, &parts.request, &parts.key, &parts.data);
+    put(out, b'K', 0, parts, 0, row, start, length);
+    row
+}
+
+/// The reply that these records call for, with any result.
+fn reply(rng: &mut Rng, parts: &Parts, r: &Request) -> Vec<u8> {
+    let length = r.result_length().min(5_000_000) as usize;
+    let mut reply = REPLY_MARK.to_vec();
+    reply.extend([r.operation, r.level]);
+    reply.extend((r.result_length() as u32).to_be_bytes());
+    reply.extend(rng.bytes(length));
+    if r.level == 2 {
+        let digest = hmac(&parts.key, &[&parts.credential[..], &parts.request, &reply].concat());
+        reply.extend(digest);
+    }
+    reply
+}
+
+/// A reply that is not quite the one called for.
+fn spoil_reply(rng: &mut Rng, parts: &Parts, r: &Request, reply: &mut Vec<u8>) {
+    let flip = |rng: &mut Rng, reply: &mut Vec<u8>, from: usize| {
+        if reply.len() > from {
+            let at = from + rng.below((reply.len() - from) as u64) as usize;
+            reply[at] ^= 1 << rng.below(8);
+        }
+    };
+    match rng.below(9) {
+        0 => reply.truncate(8), // the head alone
+        1 => {
+            let length = rng.below(reply.len() as u64) as usize;
+            reply.truncate(length);
+        }
+        2 => reply.push(0),
+        3 => {
+            reply.pop();
+        }
+        4 => reply[rng.below(8) as usize] ^= 1 << rng.below(8),
+        5 => reply.clear(),
+        6 if r.level == 2 => {
+            // Signed, but for another frame.
+            let other = Request { count: r.count ^ 1, ..r.clone() };
+            let end = reply.len() - 32;
+            let digest = hmac(&parts.key, &[&parts.credential[..], &other.bytes(), &reply[..end]].concat());
+            reply[end..].copy_from_slice(&digest);
+        }
+        7 if r.level == 2 => reply.truncate(reply.len() - 32), // no digest
+        _ => flip(rng, reply, 8), // under level 2 another result passes: nothing covers it
+    }
+}
+
+fn main() {
+    let args: Vec<String> = std::env::args().collect();
+    let [_, seed, count, path] = &args[..] else {
+        eprintln!("usage: cases SEED COUNT OUT");
+        std::process::exit(2);
+    };
+    let mut rng = Rng::new(seed.parse().expect("SEED is a number"));
+    let count: usize = count.parse().expect("COUNT is a number");
+    let mut out = vec![];
+    let mut counts: BTreeMap<(&str, u8, u8), u64> = BTreeMap::new();
+
+    for i in 0..count {
+        let (mut c, mut r) = valid(&mut rng);
+        for _ in 0..rng.weighted(&[60, 28, 12]) {
+            damage(&mut rng, &mut c, &mut r);
+        }
+        let slot_key = rng.bytes(32);
+        let mut record = [0; 36];
+        let (row, key) = issue(&slot_key, &c, &mut record);
+        let key = if row == 0 { key.to_vec() } else { rng.bytes(32) };
+        let mut parts = Parts { credential: c.bytes(), request: r.bytes(), key, data: vec![] };
+        let why = reason(&c, &r);
+        let odd = rng.below(100);
+        let (name, row) = if i % 2 == 0 {
+            let n = (r.n as usize).min(2_000);
+            parts.data = rng.bytes(n);
+            if odd == 0 {
+                parts.data.push(7);
+            } else if odd == 1 {
+                parts.data.pop();
+            }
+            lengths(&mut rng, &mut parts, odd);
+            let needed = 96 + parts.data.len();
+            let space = match rng.below(6) {
+                0 => needed - 1,
+                1 => rng.below(needed as u64) as usize,
+                2 => needed + 1 + rng.below(100) as usize,
+                _ => needed,
+            };
+            ("build", build_case(&mut out, &mut rng, &parts, space))
+        } else {
+            if r.operation == READ && r.b > 2_000 && rng.chance(90) {
+                parts.data = rng.bytes(48);
+            } else {
+                let mut short = r.clone();
+                if r.result_length() > 5_000 {
+                    short.b = 100;
+                }
+                parts.data = reply(&mut rng, &parts, &short);
+                if rng.chance(40) {
+                    let mut spoiled = parts.data.clone();
+                    spoil_reply(&mut rng, &parts, &short, &mut spoiled);
+                    parts.data = spoiled;
+                }
+            }
+            lengths(&mut rng, &mut parts, odd);
+            ("check", check_case(&mut out, &parts))
+        };
+        *counts.entry((name, row, if row == 28 { why } else { 0 })).or_default() += 1;
+    }
+
+    // The largest that there are: 1,048,576 bytes of data, 4,194,304 of result, and one more of each.
+    for more in 0..2 {
+        for (operation, level) in [(WRITE, 1), (READ, 2)] {
+            let (mut c, mut r) = valid(&mut rng);
+            while r.operation != operation {
+                (c, r) = valid(&mut rng);
+            }
+            (c.least, r.level) = (0, level);
+            r.b = if operation == WRITE { 1_048_576 } else { 4_194_304 } + more;
+            r.n = if operation == WRITE { r.b } else { 0 };
+            let mut parts = Parts { credential: c.bytes(), request: r.bytes(), key: rng.bytes(32), data: vec![] };
+            let (name, row) = if operation == WRITE {
+                parts.data = rng.bytes(r.n as usize);
+                ("build", build_case(&mut out, &mut rng, &parts, 96 + r.n as usize))
+            } else {
+                parts.data = reply(&mut rng, &parts, &r);
+                ("check", check_case(&mut out, &parts))
+            };
+            *counts.entry((name, row, 9)).or_default() += 1;
+        }
+    }
+    write(path, out).expect("cannot write OUT");
+    for ((name, row, why), n) in counts {
+        let why = match why {
+            0 => String::new(),
+            9 => " (largest and one over)".to_string(),
+            why => format!(" (row {why} met by the records)"),
+        };
+        println!("{name} row {row}{why}: {n}");
+    }
+}
+
+/// Now and then a part that is not as long as it must be.
+fn lengths(rng: &mut Rng, parts: &mut Parts, odd: u64) {
+    match odd {
+        2 | 3 => misfit(rng, &mut parts.credential),
+        4 | 5 => misfit(rng, &mut parts.request),
+        6 | 7 => misfit(rng, &mut parts.key),
+        8 => {
+            misfit(rng, &mut parts.key);
+            misfit(rng, &mut parts.credential);
+        }
+        _ => {}
+    }
+}
