@@ -86,7 +86,7 @@ impl Trace {
             let space = if done.space.is_empty() { "-".to_string() } else { hex(done.space) };
             lines.push_str(&format!("{} {} {space} {}\n", done.row, done.length, hex(&sha256(done.medium))));
         };
-        Traffic::new(Rng::new(rng.next()), fresh, medium, true, calls, &mut sink).run();
+        Traffic::new(Rng::new(rng.next()), fresh, medium, true, calls, &mut sink).with_keys(drive, master).run();
     }
 }
 

@@ -1,0 +1,279 @@
+//! Drafts: frames before they are signed, that no row refuses where the state lets them be, with their fields near the edges.
+
+use super::Traffic;
+use crate::digest::hmac;
+use crate::drive::*;
+use crate::records::*;
+use crate::rng::Rng;
+
+#[derive(Clone)]
+pub(super) enum Sign {
+    Right,
+    Under(Key),  // another key in the slot
+    OtherCover,  // over the data when it should not, or not over it when it should
+    Flip(usize), // one bit of the digest
+}
+
+/// A frame before it is signed.
+#[derive(Clone)]
+pub(super) struct Draft {
+    pub(super) c: Credential,
+    pub(super) r: Request,
+    pub(super) data: Vec<u8>,
+    pub(super) sign: Sign,
+    pub(super) cut_to: Option<usize>,
+    pub(super) cut: usize, // bytes off the end
+    pub(super) add: usize, // bytes more
+}
+
+impl Traffic<'_> {
+    /// A valid draft, plain: T at the mark, all rights, everything in range.
+    pub(super) fn plain(&mut self, mark: u64, operation: u8, partition: u8, slot: u8, object: u32, a: u32, b: u32) -> Draft {
+        let data = match operation {
+            WRITE => self.rng.bytes(b as usize),
+            SET_KEY => self.rng.bytes(16),
+            _ => vec![],
+        };
+        let version = if operation == SET_KEY {
+            0
+        } else {
+            self.drive.partitions[partition as usize].present_version(object).unwrap_or(1)
+        };
+        self.counter = self.counter.wrapping_add(1);
+        Draft {
+            c: Credential {
+                mark: CREDENTIAL_MARK,
+                partition,
+                slot,
+                object,
+                version,
+                rights: 0x7f,
+                least: 0,
+                zero: 0,
+                first: 0,
+                end: u32::MAX,
+                expiry: u64::MAX,
+                holder: 1,
+            },
+            r: Request {
+                mark: REQUEST_MARK,
+                operation,
+                level: 1 + (self.counter % 2) as u8,
+                time: mark,
+                count: self.counter,
+                a,
+                b,
+                n: data.len() as u32,
+            },
+            data,
+            sign: Sign::Right,
+            cut_to: None,
+            cut: 0,
+            add: 0,
+        }
+    }
+
+    /// Keys that stay unset for long, so that row 8 stays in reach.
+    pub(super) fn may_set(&self, slot: u8, partition: u8, a: u32) -> bool {
+        !(slot == 2 && partition == 3 && a == 1 && self.progress() < 95) && !(slot == 3 && a == 3 && self.progress() < 10)
+    }
+
+    /// A draft that the state lets through where it can, with the fields near their edges.
+    pub(super) fn draft(&mut self, mark: u64, wants: &[u8]) -> Draft {
+        let place = self.rng.pick(&self.taste.places);
+        let mut op = self.rng.weighted(&self.taste.ops) as u8 + 1;
+        let mut forced = false;
+        for want in wants {
+            let fitting: &[u8] = match want {
+                14 => &[1, 2, 3, 4, 6],
+                15 => &[1, 2, 3, 4, 5, 6],
+                16 | 17 => &[1, 2],
+                18..=20 => &[5],
+                21 => &[4, 5],
+                _ => continue,
+            };
+            forced = true;
+            if !fitting.contains(&op) {
+                op = self.rng.pick(fitting);
+            }
+        }
+        let p = if place < 4 { place } else { self.rng.below(4) as u8 };
+        if place == 4 && !forced {
+            op = SET_KEY;
+        }
+        let partition = self.drive.partitions[p as usize].clone();
+        let objects = &partition.objects;
+
+        // What the state does not let through becomes something else.
+        if matches!(op, READ | WRITE | DELETE) && objects.is_empty() && !wants.contains(&14) {
+            op = if self.rng.chance(70) { CREATE } else { LOOK };
+        }
+        if op == CREATE && objects.len() == MOST_OBJECTS && !forced && self.rng.chance(60) {
+            op = DELETE;
+        }
+        let set: Vec<u8> = (0..2).filter(|s| partition.working[*s as usize].is_some()).collect();
+        if op != SET_KEY && set.is_empty() && self.rng.chance(85) {
+            op = SET_KEY;
+        }
+
+        if op == SET_KEY {
+            let mut slot = if place == 4 { self.rng.pick(&[3, 3, 3, 4]) } else { 2 };
+            if slot == 2 && partition.key.is_none() {
+                slot = 3;
+            }
+            let mut a = match slot {
+                4 => 0,
+                3 if place == 4 => self.rng.below(4) as u32,
+                3 => p as u32,
+                _ => self.rng.below(2) as u32,
+            };
+            if !self.may_set(slot, p, a) {
+                a = 0;
+            }
+            let mut draft = self.plain(mark, SET_KEY, if slot == 2 { p } else { 0 }, slot, 0, a, 0);
+            self.vary(&mut draft, mark);
+            return draft;
+        }
+
+        let slot = if set.is_empty() { self.rng.below(2) as u8 } else { self.rng.pick(&set) };
+        let some = |rng: &mut Rng| if objects.is_empty() { 1 } else { rng.pick(objects).number };
+        let object = match op {
+            CREATE => 0,
+            LOOK | RAISE if self.rng.chance(40) => 0,
+            _ => some(&mut self.rng),
+        };
+        let size = partition.find(object).map_or(0, |o| o.size);
+        let (a, b) = match op {
+            READ | WRITE => self.range(size, op == WRITE),
+            CREATE => self.creation(&partition),
+            _ => (0, 0),
+        };
+        let mut draft = self.plain(mark, op, p, slot, object, a, b);
+        if op == READ || op == WRITE {
+            let end = a.saturating_add(b);
+            (draft.c.first, draft.c.end) = match self.rng.below(4) {
+                0 => (a, end),
+                1 => (0, size),
+                2 => (self.rng.below(a as u64 + 1) as u32, end.saturating_add(self.rng.below(30) as u32)),
+                _ => (0, u32::MAX),
+            };
+        } else if self.rng.chance(50) {
+            draft.c.first = self.rng.next() as u32;
+            draft.c.end = self.rng.next() as u32; // not judged here, whatever they say
+        }
+        self.vary(&mut draft, mark);
+        draft
+    }
+
+    /// Offset and length within a size, at its edges.
+    fn range(&mut self, size: u32, write: bool) -> (u32, u32) {
+        let (whole, part) = if write { (1, 48) } else { (25, 200) };
+        let most = if self.rng.chance(whole) { size } else { part };
+        match self.rng.below(7) {
+            0 => (0, size.min(most)),
+            1 => (size, 0),
+            2 => (0, 0),
+            3 => (size.saturating_sub(1), size.min(1)),
+            4 => (size - size.min(most), size.min(most)),
+            _ => {
+                let a = self.rng.below(size as u64 + 1) as u32;
+                (a, self.rng.below((size - a).min(most) as u64 + 1) as u32)
+            }
+        }
+    }
+
+    /// A new number and a size that fits, often exactly.
+    fn creation(&mut self, partition: &Partition) -> (u32, u32) {
+        let mut number = 1 + self.rng.below(24) as u32;
+        while partition.find(number).is_some() {
+            number = if self.rng.chance(90) { 1 + self.rng.below(30) as u32 } else { self.rng.next() as u32 | 1 };
+        }
+        if self.rng.chance(2) && partition.find(u32::MAX).is_none() {
+            number = u32::MAX;
+        }
+        let gaps = gaps(self.drive.quarter(), &areas(&partition.objects));
+        if gaps.is_empty() {
+            return (number, 1);
+        }
+        let gap = self.rng.pick(&gaps).0;
+        let size = match self.rng.weighted(&[4, 1, 8, 3, 2]) {
+            0 if gaps.len() > 1 || self.rng.chance(10) => gap,
+            1 if gaps.len() > 1 => gap - 1,
+            3 => 1 + self.rng.below((gap as u64 / 4).min(2_000) + 1) as u32,
+            4 => 1 + self.rng.below(gap as u64) as u32,
+            _ => 1 + self.rng.below((self.drive.quarter() as u64 / 20).min(60)) as u32,
+        };
+        (number, size.clamp(1, gap))
+    }
+
+    /// The fields that every operation has, still valid, at their edges.
+    fn vary(&mut self, d: &mut Draft, mark: u64) {
+        let op = d.r.operation;
+        d.r.level = if op == SET_KEY { 1 + self.rng.below(2) as u8 } else { self.rng.below(3) as u8 };
+        d.c.least = self.rng.below(d.r.level as u64 + 1) as u8;
+        let needed = 1u16 << (op - 1);
+        d.c.rights = match self.rng.below(3) {
+            0 => needed,
+            1 => 0x7f,
+            _ => needed | (self.rng.next() as u16 & 0x7f),
+        };
+        let later = self.rng.below(10_000);
+        d.c.expiry = self.rng.pick(&[mark, mark.saturating_add(1), mark.saturating_add(later), u64::MAX]);
+        let low = mark.saturating_sub(5_000);
+        let high = mark.saturating_add(5_000);
+        let between = low + self.rng.below(high - low + 1);
+        d.r.time = match self.rng.below(8) {
+            0 => low,
+            1 => high,
+            2 | 3 => mark,
+            _ => between,
+        };
+        let any = self.rng.next() as u32;
+        d.c.holder = self.rng.pick(&[0, 1, 1, 2, 3, u32::MAX, any]);
+        d.r.count = match self.rng.below(10) {
+            0 => self.rng.below(4) as u32,
+            1 => self.rng.pick(&[u32::MAX, 0x8000_0000, 256]),
+            _ => d.r.count,
+        };
+    }
+
+    /// Signs a draft with the present keys, and damages it last.
+    pub(super) fn finish(&mut self, d: &Draft) -> Vec<u8> {
+        let mut frame = d.c.bytes();
+        frame.extend(d.r.bytes());
+        frame.extend(&d.data);
+        let key = match &d.sign {
+            Sign::Under(key) => *key,
+            _ => self.drive.key(d.c.slot, d.c.partition).unwrap_or(match d.c.slot {
+                3 | 4 => self.lent_keys[d.c.slot as usize - 3],
+                _ => [0; 32],
+            }),
+        };
+        let over_data = (d.r.level >= 1) != matches!(d.sign, Sign::OtherCover);
+        let signed = if over_data { &frame[..] } else { &frame[..64] };
+        let mut digest = hmac(&hmac(&key, &frame[..36]), signed);
+        if let Sign::Flip(bit) = d.sign {
+            digest[bit / 8] ^= 1 << (bit % 8);
+        }
+        frame.extend(digest);
+        frame.truncate(frame.len() - d.cut.min(frame.len()));
+        frame.extend(self.rng.bytes(d.add));
+        if let Some(length) = d.cut_to {
+            frame.truncate(length);
+        }
+        frame
+    }
+
+    /// A frame taken apart again, to be changed and signed anew.
+    pub(super) fn draft_of(frame: &[u8]) -> Draft {
+        Draft {
+            c: Credential::read(&frame[..36]),
+            r: Request::read(&frame[36..64]),
+            data: frame[64..frame.len() - 32].to_vec(),
+            sign: Sign::Right,
+            cut_to: None,
+            cut: 0,
+            add: 0,
+        }
+    }
+}

@@ -1,0 +1,371 @@
+//! Random calls that know the drive's state and its keys, so that they can aim at every row.
+//!
+//! A call starts as a draft that no row refuses; then it is spoiled for none, one, two or more rows, signed, and put to the model.
+//! Around that stand short stories: full memories, full partitions, keys set and set back, late frames, recreated objects, the
+//! first and the last milliseconds. Beside the drive a [`Ledger`] is kept, and every call is held to demand 3.
+
+use crate::drive::*;
+use crate::gate::gate_with_rows;
+use crate::ledger::Ledger;
+use crate::records::*;
+use crate::rng::Rng;
+use drafts::Draft;
+use std::mem::replace;
+
+mod drafts;
+mod episodes;
+mod spoil;
+
+/// Bytes after the medium that a test may lend too much of, and that nobody may write.
+pub const GUARD: usize = 8;
+
+pub struct Call {
+    pub clock: u64,
+    pub frame: Vec<u8>,
+    pub lent: usize, // how much of the medium
+    pub space: usize,
+    pub fill: u8, // what the reply space holds before
+}
+
+pub struct Done<'a> {
+    pub call: &'a Call,
+    pub rows: &'a [u8], // all that apply, lowest first
+    pub row: u8,
+    pub length: usize,
+    pub space: &'a [u8],
+    pub medium: &'a [u8], // with its guard bytes
+}
+
+#[derive(Clone, Copy)]
+enum Clock {
+    Still,
+    Drift,
+    Wild,
+}
+
+/// What an episode likes.
+#[derive(Clone)]
+struct Taste {
+    places: Vec<u8>, // partitions; 4 stands for drive and master key
+    ops: [u64; 7],
+    clock: Clock,
+    spoils: [u64; 4], // weights of none, one, two, three rows aimed at
+}
+
+impl Taste {
+    fn balanced() -> Taste {
+        Taste { places: vec![0, 0, 1, 1, 2, 3, 4], ops: [20, 20, 12, 12, 16, 8, 6], clock: Clock::Drift, spoils: [30, 40, 22, 8] }
+    }
+}
+
+pub struct Traffic<'a> {
+    pub rng: Rng,
+    pub drive: Drive,
+    medium: Vec<u8>,
+    ledger: Option<Ledger>,
+    library: bool, // spaces and media of any length; else the program's
+    total: usize,
+    left: usize,
+    counter: u32,
+    ceiling: u64,
+    taste: Taste,
+    short: bool,
+    granted: Vec<Vec<u8>>,      // late grants' frames
+    held: Vec<Vec<u8>>,         // built, to be sent later
+    past: Vec<(u8, u32, u32)>,  // partition, object and a version that it had
+    old_keys: Vec<Key>,
+    lent_keys: [Key; 2], // drive and master key as a refused format was lent them
+    sink: &'a mut dyn FnMut(&Done),
+}
+
+impl<'a> Traffic<'a> {
+    /// Over a drive just formatted (or refused, with F = 0 and the like: then there is no ledger). `medium` has the guard bytes.
+    pub fn new(
+        rng: Rng,
+        drive: Drive,
+        medium: Vec<u8>,
+        library: bool,
+        calls: usize,
+        sink: &'a mut dyn FnMut(&Done),
+    ) -> Traffic<'a> {
+        let ledger = match (drive.master, drive.drive) {
+            (Some(m), Some(d)) => Some(Ledger::new(drive.size, drive.partitions[0].version, m, d)),
+            _ => None,
+        };
+        Traffic {
+            rng,
+            drive,
+            medium,
+            ledger,
+            library,
+            total: calls,
+            left: calls,
+            counter: 0,
+            ceiling: u64::MAX - 100_000,
+            taste: Taste::balanced(),
+            short: false,
+            granted: vec![],
+            held: vec![],
+            past: vec![],
+            old_keys: vec![[0; 32], [1; 32]],
+            lent_keys: [[0; 32]; 2],
+            sink,
+        }
+    }
+
+    /// For a drive whose format was refused: the keys that it was lent, to sign frames with that must find no key.
+    pub fn with_keys(mut self, drive: &[u8], master: &[u8]) -> Traffic<'a> {
+        self.lent_keys = [drive, master].map(|k| Key::try_from(k).unwrap_or([0; 32]));
+        self
+    }
+
+    fn progress(&self) -> usize {
+        (self.total - self.left) * 100 / self.total.max(1)
+    }
+
+    /// Puts a frame to the model, tells the sink and the ledger. Returns the row; 255 when all calls are spent.
+    fn put(&mut self, clock: u64, frame: Vec<u8>) -> u8 {
+        if self.left == 0 {
+            return 255;
+        }
+        self.left -= 1;
+        let (lent, space, fill) = self.spaces(&frame);
+        let call = Call { clock, frame, lent, space, fill };
+        let mut reply = vec![fill; space];
+        let before = self.drive.clone();
+        let (rows, length) =
+            gate_with_rows(&mut self.drive, &mut self.medium[..lent], &call.frame, clock, &mut reply);
+        let row = rows.first().copied().unwrap_or(0);
+        (self.sink)(&Done { call: &call, rows: &rows, row, length, space: &reply, medium: &self.medium });
+        if row == 1 {
+            assert_eq!(self.drive, before);
+        } else if let Some(ledger) = &mut self.ledger {
+            ledger.call(&call.frame, clock, row, &reply[..length]);
+            ledger.agrees(&self.drive, &self.medium);
+        }
+        if row == 0 {
+            self.remember(&before, call.frame);
+        }
+        row
+    }
+
+    /// Keeps what later calls may try again: frames, versions and keys gone by.
+    fn remember(&mut self, before: &Drive, frame: Vec<u8>) {
+        let c = Credential::read(&frame[..36]);
+        let r = Request::read(&frame[36..64]);
+        if r.operation == RAISE || r.operation == DELETE {
+            self.past.push((c.partition, c.object, c.version));
+        }
+        if r.operation == SET_KEY {
+            let old = match c.slot {
+                4 => before.drive,
+                3 => before.partitions[r.a as usize].key,
+                _ => before.partitions[c.partition as usize].working[r.a as usize],
+            };
+            self.old_keys.extend(old);
+        }
+        self.granted.push(frame);
+        if self.granted.len() > 300 {
+            self.granted.remove(0);
+        }
+        if self.past.len() > 200 {
+            self.past.remove(0);
+        }
+        if self.old_keys.len() > 30 {
+            self.old_keys.remove(0);
+        }
+    }
+
+    /// Medium lent, reply space and its filling: the program's, or any.
+    fn spaces(&mut self, frame: &[u8]) -> (usize, usize, u8) {
+        if !self.library {
+            return (self.drive.size, 65_536, 0);
+        }
+        let asked = if frame.len() < 96 { 8 } else { Request::read(&frame[36..64]).reply_length() };
+        let needed = if asked > 20_000 && self.rng.chance(97) { 48 } else { asked.min(70_000) as usize };
+        let short = replace(&mut self.short, false);
+        let space = if short {
+            match self.rng.below(4) {
+                0 => 0,
+                1 => self.rng.below(needed as u64) as usize,
+                _ => needed - 1,
+            }
+        } else {
+            match self.rng.weighted(&[450, 350, 100, 2, 30, 10, 10]) {
+                0 => needed,
+                1 => needed + 1 + self.rng.below(40) as usize,
+                2 => needed + self.rng.below(300) as usize,
+                3 => 70_000,
+                4 => needed - 1,
+                5 => 0,
+                _ => self.rng.below(needed as u64) as usize,
+            }
+        };
+        let size = self.drive.size;
+        let most = self.medium.len();
+        let lent = if self.rng.chance(2) {
+            match self.rng.below(4) {
+                0 => size.saturating_sub(1),
+                1 => (size + 1).min(most),
+                2 => 0,
+                _ => self.rng.below(most as u64 + 1) as usize,
+            }
+        } else {
+            size
+        };
+        (lent, space.min(70_000), self.rng.next() as u8)
+    }
+
+    /// A call by the episode's taste, aimed at these rows (none: a grant, if the state lets it).
+    fn one(&mut self, wants: &[u8]) -> u8 {
+        let clock = self.clock();
+        self.one_at(clock, wants)
+    }
+
+    fn one_at(&mut self, clock: u64, wants: &[u8]) -> u8 {
+        let frame = self.frame_for(clock, wants);
+        self.short = wants.contains(&23);
+        self.put(clock, frame)
+    }
+
+    fn frame_for(&mut self, clock: u64, wants: &[u8]) -> Vec<u8> {
+        let mark = self.drive.mark.max(clock);
+        let mut draft = self.draft(mark, wants);
+        let mut order = wants.to_vec();
+        self.rng.shuffle(&mut order);
+        for row in order {
+            self.spoil(&mut draft, row, mark);
+        }
+        self.finish(&draft)
+    }
+
+    fn plain_at(&mut self, clock: u64, draft: &Draft) -> u8 {
+        let frame = self.finish(draft);
+        self.put(clock, frame)
+    }
+
+    fn clock(&mut self) -> u64 {
+        let mark = self.drive.mark;
+        let reading = match self.taste.clock {
+            Clock::Still => match self.rng.below(6) {
+                0 => 0,
+                1 => self.rng.below(mark.saturating_add(1)),
+                2 => mark.saturating_sub(1),
+                _ => mark,
+            },
+            Clock::Drift => match self.rng.weighted(&[60, 20, 8, 8, 4]) {
+                0 => mark.saturating_add(self.rng.below(400)),
+                1 => mark,
+                2 => self.rng.below(mark.saturating_add(1)),
+                3 => self.edge_of_an_entry(),
+                _ => mark.saturating_add(self.rng.pick(&[1, 5_000, 5_001, 10_000, 10_001])),
+            },
+            Clock::Wild => match self.rng.below(5) {
+                0 => self.rng.below(mark.saturating_add(1)),
+                1 => mark,
+                2 => mark.saturating_add(1 << self.rng.below(14)),
+                _ => self.edge_of_an_entry(),
+            },
+        };
+        if mark < self.ceiling {
+            reading.min(self.ceiling)
+        } else {
+            reading
+        }
+    }
+
+    /// A reading at which some entry is just kept or just outlived.
+    fn edge_of_an_entry(&mut self) -> u64 {
+        let memories: Vec<&Vec<Nonce>> =
+            self.drive.partitions.iter().map(|p| &p.memory).chain([&self.drive.fifth]).collect();
+        let memory = memories[self.rng.below(5) as usize];
+        if memory.is_empty() {
+            return self.drive.mark;
+        }
+        let time = memory[self.rng.below(memory.len() as u64) as usize].time;
+        time.saturating_add(4_999 + self.rng.below(3))
+    }
+
+    /// A little later, so that memories have room.
+    fn tick(&mut self) -> u64 {
+        let reading = self.drive.mark.saturating_add(100 + self.rng.below(300));
+        reading.min(self.ceiling.max(self.drive.mark))
+    }
+}
+
+/// How often each row was the answer, and how often another row applied beside it.
+pub struct Tally {
+    pub rows: [u64; 31],
+    pub pairs: [[u64; 31]; 31],
+}
+
+impl Default for Tally {
+    fn default() -> Tally {
+        Tally { rows: [0; 31], pairs: [[0; 31]; 31] }
+    }
+}
+
+impl Tally {
+    pub fn count(&mut self, done: &Done) {
+        self.rows[done.row as usize] += 1;
+        for (i, first) in done.rows.iter().enumerate() {
+            for second in &done.rows[i + 1..] {
+                self.pairs[*first as usize][*second as usize] += 1;
+            }
+        }
+    }
+
+    /// "row R: N" lines, and which of the rows from 3 on met beside which.
+    pub fn print(&self) {
+        for (row, n) in self.rows.iter().enumerate() {
+            if *n > 0 {
+                println!("row {row}: {n}");
+            }
+        }
+        let met = self.pairs.iter().flatten().filter(|n| **n > 0).count();
+        println!("pairs of rows that applied at once: {met}");
+        for (first, line) in self.pairs.iter().enumerate() {
+            let with: Vec<String> =
+                line.iter().enumerate().filter(|(_, n)| **n > 0).map(|(second, n)| format!("{second}:{n}")).collect();
+            if !with.is_empty() {
+                println!("  {first} with {}", with.join(" "));
+            }
+        }
+    }
+}
+
+#[cfg(test)]
+mod tests {
+    use super::*;
+
+    /// A run in which every row that a program meets is met, each call held to demand 3 by the ledger.
+    #[test]
+    fn every_row_of_the_program() {
+        let mut medium = vec![0; 65_536 + GUARD];
+        let (_, drive) = format(&mut medium[..65_536], 1, &[0; 32], &[1; 32]);
+        let mut tally = Tally::default();
+        let mut sink = |done: &Done| tally.count(done);
+        Traffic::new(Rng::new(5), drive, medium, false, 8_000, &mut sink).run();
+        for row in (0..=22).filter(|r| *r != 1 && *r != 21) {
+            assert!(tally.rows[row] > 0, "row {row} is not met");
+        }
+        assert_eq!(tally.rows.iter().sum::<u64>(), 8_000);
+    }
+
+    /// A small drive that soon has given its last version, with spaces and media of any length: the other three rows.
+    #[test]
+    fn every_row_of_the_library() {
+        let mut medium = vec![9; 402 + GUARD];
+        let (_, drive) = format(&mut medium[..402], u32::MAX - 9, &[0; 32], &[1; 32]);
+        let mut tally = Tally::default();
+        let mut sink = |done: &Done| {
+            tally.count(done);
+            assert!(done.medium[402..].iter().all(|b| *b == 9));
+            assert!(done.space[done.length..].iter().all(|b| *b == done.call.fill));
+        };
+        Traffic::new(Rng::new(6), drive, medium, true, 3_000, &mut sink).run();
+        for row in [0, 1, 21, 23] {
+            assert!(tally.rows[row] > 0, "row {row} is not met");
+        }
+    }
+}
