@@ -308,14 +308,12 @@ impl Default for Tally {
 impl Tally {
     pub fn count(&mut self, done: &Done) {
         self.rows[done.row as usize] += 1;
-        for (i, first) in done.rows.iter().enumerate() {
-            for second in &done.rows[i + 1..] {
-                self.pairs[*first as usize][*second as usize] += 1;
-            }
+        for beside in done.rows.iter().skip(1) {
+            self.pairs[done.row as usize][*beside as usize] += 1;
         }
     }
 
-    /// "row R: N" lines, and which of the rows from 3 on met beside which.
+    /// "row R: N" lines, and beside which other rows each was the answer, so that the lowest had to win.
     pub fn print(&self) {
         for (row, n) in self.rows.iter().enumerate() {
             if *n > 0 {
@@ -323,12 +321,12 @@ impl Tally {
             }
         }
         let met = self.pairs.iter().flatten().filter(|n| **n > 0).count();
-        println!("pairs of rows that applied at once: {met}");
+        println!("pairs of an answer and another row that applied: {met}");
         for (first, line) in self.pairs.iter().enumerate() {
             let with: Vec<String> =
                 line.iter().enumerate().filter(|(_, n)| **n > 0).map(|(second, n)| format!("{second}:{n}")).collect();
             if !with.is_empty() {
-                println!("  {first} with {}", with.join(" "));
+                println!("  {first} beside {}", with.join(" "));
             }
         }
     }
