@@ -67,34 +67,23 @@ fn later(a: u64, b: u64) -> u64
     if a < b { b } else { a }
 }
 
-// The memories without outlived entries. One that has none is not written.
-fn purged(ms: [Memory; 5], mark: u64) -> [Memory; 5]
-    requires { ⌜ every short ms ≡ true ⌝ }
-    ensures { λ r. ⌜ (map entered r ≡ map (keep (lives mark)) (map entered ms)) × (every short r ≡ true) × (length r ≡ 5) ⌝ }
-{
-    let mut r = ms;
-    let mut i = 0;
-    while i < 5 {
-        let k = i;
-        let m = ms[k];
-        i += 1;
-        if memory::stale(m, mark) {
-            r[k] = memory::purged(m, mark);
-        }
-    }
-    r
-}
-
-// The drive at a clock reading: the mark is the later one, outlived entries are gone.
+// The drive at a clock reading: the mark is the later one, outlived entries are gone. A memory that has none is not
+// written.
 pub fn refreshed(d: Drive, clock: u64) -> Drive
     requires { ⌜ Counted d ⌝ }
     ensures { λ r. ⌜ (view r ≡ refresh clock (view d)) × Counted r ⌝ }
 {
     let mark = later(d.highwater, clock);
-    let ms = d.memories;
-    let fresh = purged(ms, mark);
     let mut r = d;
     r.highwater = mark;
-    r.memories = fresh;
+    let mut i = 0;
+    while i < 5 {
+        let k = i;
+        let m = d.memories[k];
+        i += 1;
+        if memory::stale(m, mark) {
+            r.memories[k] = memory::purged(m, mark);
+        }
+    }
     r
 }
