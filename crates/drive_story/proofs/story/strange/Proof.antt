@@ -1,0 +1,19 @@
+-- The count goes up to its bound.
+use Prim.Native.Nat.{_≤_, _-_}
+use native.Mathlib.Omega.{arith}
+use borrow.Author.Needs.{needs}
+use Rattle.drive_story.proofs.story.strange.Statement.{statement}
+use Rattle.drive_story.proofs.story.strange.Tie as tie
+
+abbrev Inv-loop : tie.InvT-loop
+Inv-loop w₀ i₀ w i = i ≤ 70
+
+abbrev μ-loop : tie.MeasureT-loop
+μ-loop w₀ i₀ w i = 70 - i
+
+pub strange-spec : {M : Type 1} → statement M
+strange-spec =
+    tie.close
+    (tie.spec
+    Inv-loop μ-loop (λ c. omega arith) (λ c κs. search needs) (λ c. omega arith) (λ c. omega arith)
+    (λ c. omega arith) (λ c. search needs))
