@@ -59,7 +59,7 @@ use Rattle.wire.specs.Parse.{operationNumber, firstNumber, secondNumber, reques
 use Rattle.octets.specs.Numbers.{bytesPut, numberPut}
 use Rattle.effect.specs.declared.Site.{Site}
 use Rattle.effect.specs.Effect.{nextOf, objectFrom, resultPut, mediumPut, keysPut, sealPut, resultReply, replyPut}
-use Rattle.partition.specs.Partition.{raisedTo, createdTo, deletedFrom, partitionAfter}
+use Rattle.partition.specs.Partition.{raisedTo, createdTo, partitionAfter}
 use Rattle.drive.specs.Site.{siteOf, Room}
 
 -- the rules' name of an operation
@@ -316,7 +316,7 @@ module _ (d : Drive) (m f space : List ℕ) (q : ParsedRequest) (e : requestTold
 
     partition-by : (o : Operation) → Is o
         → partitionAfter o (x .cred .object) (s .next) (s .place) P ≡ home (tablesAfter (nameOf o) Q x t) x
-    unfolding tablesAfter siteOf startOf raised raisedTo created createdTo deleted deletedFrom
+    unfolding tablesAfter siteOf startOf raised raisedTo created createdTo
     partition-by (Read a b) i = refl
     partition-by (Write a b) i = refl
     partition-by Look i = refl

@@ -62,6 +62,11 @@ fn drive_key() {
         b"partition 1 seed",
     );
     let w = put_old(w, b"under this key", key, x, q, b"partition 1 seed");
+    drive_key_back(w, key, x, q);
+}
+
+// Another drive key, and the same one again.
+fn drive_key_back(w: World, key: [u8; 32], x: Credential, q: Request) {
     let w = set(
         w,
         b"set drive key, other seed",
@@ -98,6 +103,11 @@ fn partition_key() {
     let key = key_in(w, 0, 2);
     let w = put_old(w, b"frame under this key", key, x, q, b"working 0 1 seed");
     show_key(w, 1);
+    partition_key_back(w, key, x, q);
+}
+
+// Another partition key, and the same one again.
+fn partition_key_back(w: World, key: [u8; 32], x: Credential, q: Request) {
     let w = set(
         w,
         b"set partition key 0, other seed",
@@ -131,6 +141,11 @@ fn working_key() {
     show_key(w, 0);
     let key = key_in(w, 0, 0);
     let w = put_old(w, b"look under this key", key, x, q, b"");
+    working_key_back(w, key, x, q);
+}
+
+// Another working key, and the same one again.
+fn working_key_back(w: World, key: [u8; 32], x: Credential, q: Request) {
     let w = set(
         w,
         b"set working key 0, other seed",

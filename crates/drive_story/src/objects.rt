@@ -8,6 +8,7 @@ use super::play::req;
 use super::play::send;
 use super::play::show;
 use super::play::stocked;
+use rules::Credential;
 
 // A recreated object has a new version and zero bytes.
 fn recreated() {
@@ -24,6 +25,11 @@ fn recreated() {
         req(5, 0, 0, 13, 1, 40),
         0,
     );
+    recreated_read(w, c);
+}
+
+// The old version reads nothing, the new one zeros.
+fn recreated_read(w: World, c: Credential) {
     let w = ask(w, b"read, old version", c, req(1, 0, 0, 14, 0, 20), 0);
     let w = ask(
         w,
@@ -64,6 +70,11 @@ fn last_but_one() {
     let c = cred(0, 0, 0, 0xfffffffe, 7);
     let w = ask(w, b"create", c, req(5, 0, 0, 10, 1, 40), 0);
     let w = ask(w, b"create another", c, req(5, 0, 0, 11, 2, 40), 0);
+    none_left(w, c);
+}
+
+// None is left.
+fn none_left(w: World, c: Credential) {
     let w = ask(w, b"raise the partition", c, req(4, 0, 0, 12, 0, 0), 0);
     let o = cred(0, 0, 1, 0xffffffff, 7);
     let w = ask(w, b"raise the object", o, req(4, 0, 0, 13, 0, 0), 0);
@@ -82,6 +93,11 @@ fn levels() {
     let w = send(w, b"write, level 2", c, req(2, 2, 0, 12, 38, 2), b"yz", 0);
     let w = ask(w, b"read, level 0", c, req(1, 0, 0, 13, 0, 8), 0);
     let w = ask(w, b"read, level 1", c, req(1, 1, 0, 14, 36, 4), 0);
+    levels_signed(w, c);
+}
+
+// A reply of level 2 has a digest behind it.
+fn levels_signed(w: World, c: Credential) {
     let w = ask(w, b"read, level 2", c, req(1, 2, 0, 15, 0, 40), 0);
     let w = ask(w, b"read nothing, level 2", c, req(1, 2, 0, 16, 40, 0), 0);
     let w = ask(
@@ -121,6 +137,12 @@ fn ranges() {
     let w = ask(w, b"read 0 from 16", c, req(1, 0, 0, 11, 16, 0), 0);
     let w = ask(w, b"read 9 from 8", c, req(1, 0, 0, 12, 8, 9), 0);
     let w = ask(w, b"read 0 from 17", c, req(1, 0, 0, 13, 17, 0), 0);
+    ranges_on(w, c);
+}
+
+// Before the range; the right; the size; no object.
+fn ranges_on(w: World, inside: Credential) {
+    let mut c = inside;
     let w = ask(w, b"read 1 from 7", c, req(1, 0, 0, 14, 7, 1), 0);
     c.rights = 0x7e;
     let w = ask(w, b"read without the right", c, req(1, 0, 0, 15, 8, 8), 0);
@@ -187,6 +209,11 @@ fn gaps() {
     let w = create(w, 5, 1);
     let w = delete(w, 1, 2);
     let w = delete(w, 3, 4);
+    gaps_filled(w);
+}
+
+// Two gaps of ten bytes, 0 to 9 and 30 to 39, are filled; then gaps of 20 and of 6 bytes are made.
+fn gaps_filled(w: World) {
     let w = create(w, 6, 11);
     let w = create(w, 7, 10);
     let w = create(w, 8, 4);

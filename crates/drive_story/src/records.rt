@@ -143,7 +143,11 @@ fn unsound() {
     look_at(with(w, 1, 2, 10, 50, 2, 3));
     heading(b"number 0");
     look_at(with(w, 0, 2, 10, 50, 2, 3));
+}
+
+fn unsound_areas() {
     heading(b"an empty area");
+    let w = stocked();
     look_at(with(w, 2, 2, 0, 50, 2, 3));
     heading(b"an area past the quarter");
     look_at(with(w, 2, 2, 51, 50, 2, 3));
@@ -198,6 +202,7 @@ pub fn play_records() {
     short_reply();
     short_medium();
     unsound();
+    unsound_areas();
     unsound_too();
     refused_formats();
 }

@@ -60,6 +60,11 @@ fn late() {
     let w = read(w, b"part 1", c, 10000, 1, 0, 10000);
     let w = read(w, b"part 2, T + 5000 = mark", c, 5000, 2, 8, 10000);
     let w = read(w, b"part 2, T + 5001 = mark", c, 4999, 3, 8, 10000);
+    early(w, c);
+}
+
+// A frame of a clock 5,000 ms ahead is in time.
+fn early(w: World, c: Credential) {
     let w = read(w, b"part 2, T = mark + 5000", c, 15000, 4, 8, 10000);
     let w = read(w, b"part 2, T = mark + 5001", c, 15001, 5, 8, 10000);
     let w = read(w, b"part 2, T + 5000 = mark - 1", c, 5000, 6, 8, 10001);
@@ -124,6 +129,11 @@ fn back() {
     e.expiry = 9999;
     let w = look(w, b"clock 0, expiry 9999", e, 9000, 5, 0);
     show_mark(w);
+    back_again(w, c);
+}
+
+// Any call moves the mark.
+fn back_again(w: World, c: Credential) {
     let w = put(w, b"no frame, clock 20000", b"", 20000);
     let w = look(w, b"clock 10000, T = 10000", c, 10000, 6, 10000);
     show_mark(w);
@@ -137,6 +147,11 @@ fn last_clock() {
     let w = look(w, b"T 5000 before", c, 0xffffffffffffec77, 1, LAST);
     let w = look(w, b"T 5001 before", c, 0xffffffffffffec76, 2, LAST);
     let w = look(w, b"T = mark", c, LAST, 3, LAST);
+    last_clock_on(w, c);
+}
+
+// The same frame, the first time and an expiry are past.
+fn last_clock_on(w: World, c: Credential) {
     let w = look(w, b"again, clock 0", c, LAST, 3, 0);
     let w = look(w, b"T = 0", c, 0, 4, LAST);
     let mut e = cred(0, 0, 1, 2, 7);

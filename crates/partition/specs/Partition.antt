@@ -10,12 +10,12 @@ use native.Mathlib.Decide.{decLe}
 use lib.Dec.{leb}
 use borrow.Author.Tests.{le-leb, lt-leb}
 use lib.ListN.{length}
-use Rattle.lemmas.specs.Tests.{_is_, _isnt_, _under_}
-use Rattle.lemmas.specs.Lists.{every, pairs, find, missing, keep, change}
+use Rattle.lemmas.specs.Tests.{_is_, _under_}
+use Rattle.lemmas.specs.Lists.{every, pairs, find, missing, change}
 use Rattle.rules.specs.declared.Object.{Object}
 use Rattle.rules.specs.Drive as rules
 use Rattle.rules.specs.Drive.{changed, mostObjects, soundObject, soundPartition, apart}
-use Rattle.rules.specs.Operations.{noObject, withVersion}
+use Rattle.rules.specs.Operations.{noObject, withVersion, deleted}
 use Rattle.state.specs.Objects.{listed}
 use Rattle.wire.specs.declared.Operation.{Operation}
 use Rattle.wire.specs.declared.Operation.the-variants.{Read, Write, Look, Raise, Create, Delete, SetKey}
@@ -55,10 +55,7 @@ unfoldable pub createdTo : Object → rules.Partition Object → rules.Partition
 createdTo o p = changed (p .version) (o .version)
     (cond (length (p .objects) under mostObjects) (p .objects ++ (o ∷ [])) (p .objects)) p
 
--- 6. "the object goes"
-unfoldable pub deletedFrom : ℕ → rules.Partition Object → rules.Partition Object
-deletedFrom n p = changed (p .version) (p .last) (keep (λ (a : Object). a .number isnt n) (p .objects)) p
-
+-- all seven; 6, "the object goes", is the rules' own `deleted`
 abbrev pub partitionAfter : Operation → ℕ → ℕ → ℕ → rules.Partition Object → rules.Partition Object
 partitionAfter (Read offset length) n v start p = p
 partitionAfter (Write offset length) n v start p = p
@@ -66,7 +63,7 @@ partitionAfter Look n v start p = p
 partitionAfter Raise n v start p = raisedTo v n p
 partitionAfter (Create number size) n v start p =
     createdTo (record { number = number; version = v; size = size; start = start }) p
-partitionAfter Delete n v start p = deletedFrom n p
+partitionAfter Delete n v start p = deleted n p
 partitionAfter (SetKey target) n v start p = p
 
 -- ---- laws: a count within the array, and what is sound

@@ -4,7 +4,8 @@ ghost use mathlib.Core.Path.{_≡_};
 ghost use mathlib.Core.Bool.{true};
 ghost use Prim.Native.Nat.{_≤_};
 ghost use Rattle.rules.specs.Drive.{soundPartition, mostObjects};
-ghost use Rattle.partition.specs.Partition.{partitionOf, viewed, targetOf, raisedTo, createdTo, deletedFrom, partitionAfter};
+ghost use Rattle.rules.specs.Operations.{deleted as Operations·deleted};
+ghost use Rattle.partition.specs.Partition.{partitionOf, viewed, targetOf, raisedTo, createdTo, partitionAfter};
 use rules::Object;
 use state::Found;
 use state::Objects;
@@ -85,7 +86,7 @@ fn created(p: Partition, o: Object) -> Partition
 
 // Operation 6: the object goes.
 fn deleted(p: Partition, number: u32) -> Partition
-    ensures { λ r. ⌜ (partitionOf r ≡ deletedFrom number (partitionOf p)) × (r .objects .count ≤ mostObjects) ⌝ }
+    ensures { λ r. ⌜ (partitionOf r ≡ Operations·deleted number (partitionOf p)) × (r .objects .count ≤ mostObjects) ⌝ }
 {
     let os = p.objects;
     let next = state::remove(os, number);
