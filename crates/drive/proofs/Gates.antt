@@ -72,6 +72,30 @@ pub frame-not-1 : (f : List ℕ) → frameRow f ≡ 1 → ⊥
 unfolding frameRow frameRows every
 frame-not-1 f e = eqb-false (frameRow f) 1 (row-isnt 1 (frameRows f (fields f)) refl refl) e
 
+-- ---- from row 8 on: row 0 where no row applies, and a refusal leaves the drive
+module _ (d : rules.Drive) (m : List ℕ) (x : Fields) (space : List ℕ) where
+  abbrev lowest : ℕ
+  lowest = firstRow (driveRows d x space)
+
+  pub admitted-zero : admitted d m x space .row ≡ 0 → lowest ≡ 0
+  unfolding admitted
+  admitted-zero e = go (lowest is 0) refl e
+    where
+      go : (b : Bool) → (lowest is 0) ≡ b → cond b (granted d m x space) (refused lowest d m space) .row ≡ 0 → lowest ≡ 0
+      go true h k = eqb-true lowest 0 h
+      go false h k = k
+
+  pub admitted-refused : (admitted d m x space .row ≡ 0 → ⊥)
+      → (admitted d m x space .length ≡ 0) × (admitted d m x space .drive ≡ d)
+  unfolding admitted granted
+  admitted-refused z = go (lowest is 0) z
+    where
+      go : (b : Bool) → (cond b (granted d m x space) (refused lowest d m space) .row ≡ 0 → ⊥)
+          → (cond b (granted d m x space) (refused lowest d m space) .length ≡ 0)
+          × (cond b (granted d m x space) (refused lowest d m space) .drive ≡ d)
+      go true k = absurd (k refl)
+      go false k = (refl, refl)
+
 pub drive-not-1 : (d : rules.Drive) (m : List ℕ) (x : Fields) (space : List ℕ) → admitted d m x space .row ≡ 1 → ⊥
 unfolding admitted driveRows every granted
 drive-not-1 d m x space e = go (firstRow (driveRows d x space) is 0) e

@@ -34,6 +34,7 @@ use Rattle.memory.specs.Memory.{entriesOf}
 use Rattle.effect.specs.declared.Site.{Site}
 use Rattle.effect.specs.Effect.{mediumPut, replyPut, keysPut}
 use Rattle.judge.specs.Judge.{entryOf, judgeRows, placeFor, rules-rows, place-when}
+use Rattle.partition.specs.declared.Partition.{Partition}
 use Rattle.partition.specs.Partition.{partitionOf, partitionAfter}
 use Rattle.drive.specs.declared.Share.{Share}
 use Rattle.drive.specs.declared.Outcome.{Outcome}
@@ -55,6 +56,14 @@ module _ (s : Share) (f : List ℕ) (z : frameRow f ≡ 0) where
   pub alone-memory : remembered (alone s) x ≡ entriesOf (s .memory)
   unfolding alone remembered
   alone-memory = getD-replicate 5 (memory x) (entriesOf (s .memory)) [] (in-five f z)
+
+pub alone-four : (s : Share) → length (alone s .tables .partitions) ≡ 4
+unfolding alone
+alone-four s = refl
+
+pub alone-five : (s : Share) → length (alone s .memories) ≡ 5
+unfolding alone
+alone-five s = refl
 
 -- it has its new mark, and no outlived entry
 pub alone-fresh : (s : Share) → keep (lives (s .highwater)) (entriesOf (s .memory)) ≡ entriesOf (s .memory)
@@ -151,18 +160,16 @@ module _ (s : Share) (m f space : List ℕ) (c : Credential) (q : ParsedRequest)
 
   -- ---- a refusal
   pub refusal-given : (r : Outcome) (n : ℕ) → firstRow table ≡ n → (n ≡ 0 → ⊥) → r .row ≡ n → r .length ≡ 0
-      → r .share ≡ s → Given (admitted (alone s) m y space) y r m space
+      → r .keys ≡ s .keys → r .partition ≡ s .partition → Given (admitted (alone s) m y space) y r m space
   unfolding admitted alone
-  refusal-given r n t z e l k = subst (λ (a : Answer). Given a y r m space) (sym answer) (record {
+  refusal-given r n t z e l k p = subst (λ (a : Answer). Given a y r m space) (sym answer) (record {
     row = e;
     length = l;
     medium = refl;
     space = refl;
-    keys = ap (λ (h : Share). keysOf (h .keys)) k;
-    partition = ap (λ (h : Share). partitionOf (h .partition)) k ∙ sym (alone-home s f zero-row);
-    memory = ap (λ (h : Share). entriesOf (h .memory)) k ∙ sym (alone-memory s f zero-row);
-    few = subst (λ (h : Share). h .partition .objects .count ≤ mostObjects) (sym k) (w .few);
-    short = subst (λ (h : Share). h .memory .count ≤ mostEntries) (sym k) (w .short);
+    keys = ap keysOf k;
+    partition = ap partitionOf p ∙ sym (alone-home s f zero-row);
+    few = subst (λ (h : Partition). h .objects .count ≤ mostObjects) (sym p) (w .few);
   })
     where
       answer : admitted (alone s) m y space ≡ refused n (alone s) m space
@@ -193,6 +200,26 @@ module _ (s : Share) (m f space : List ℕ) (c : Credential) (q : ParsedRequest)
   pub small-size : s .size ≤ largestMedium
   unfolding alone
   small-size = leb-true (s .size) largestMedium (small-of (alone s) (w .sound))
+
+  -- what a grant enters
+  entry-is : entryOf c (requestTold q) ≡ entry y
+  unfolding entryOf entry
+  entry-is = rw (c-is, q-is) refl
+
+  drive-is : firstRow table ≡ 0 → driveAfter (operationOf y) y (alone s) ≡ admitted (alone s) m y space .drive
+  unfolding admitted granted
+  drive-is t = rw t refl
+
+  pub memory-entered : firstRow table ≡ 0 → cond (length (entriesOf (s .memory)) under mostEntries)
+      (entriesOf (s .memory) ++ (entryOf c (requestTold q) ∷ [])) (entriesOf (s .memory))
+      ≡ remembered (admitted (alone s) m y space .drive) y
+  memory-entered t =
+      ap (λ (l : List Entry). cond (length l under mostEntries) (l ++ (entryOf c (requestTold q) ∷ [])) l)
+      (sym (alone-memory s f zero-row))
+      ∙ memory-is (alone s) m f space q q-is (room-of t)
+      (cond (y .req .operation isnt 5) none (placeOf (quarter (alone s .size)) (alone s .tables) y)) refl (alone-four s)
+      (alone-five s) (in-five f zero-row) (entryOf c (requestTold q)) entry-is
+      ∙ ap (λ (b : rules.Drive). remembered b y) (drive-is t)
 
 -- ---- the parts of a grant
 module _ (s : Share) (seen : Mac) (k m f space : List ℕ) (c : Credential) (q : ParsedRequest) (start : Option ℕ)
@@ -244,31 +271,12 @@ module _ (s : Share) (seen : Mac) (k m f space : List ℕ) (c : Credential) (q :
   unfolding granted alone
   keys-g = rw (c-g, g .key) (keys-is d m f space q q-g (g .room) start placed-g)
 
-  four-d : length (d .tables .partitions) ≡ 4
-  unfolding alone
-  four-d = refl
-
-  five-d : length (d .memories) ≡ 5
-  unfolding alone
-  five-d = refl
-
-  entry-g : entryOf c (requestTold q) ≡ entry v
-  unfolding entryOf entry
-  entry-g = rw (c-g, q-g) refl
-
   pub partition-g : partitionAfter (q .operation) (c .object) (here .next) (here .place) (partitionOf (s .partition))
       ≡ home (granted d m v space .drive .tables) v
   unfolding granted
   partition-g =
       ap (λ (h : Site). partitionAfter (q .operation) (c .object) (h .next) (h .place) (partitionOf (s .partition))) site-g
-      ∙ rw (c-g, ← alone-home s f zero-g) (partition-is d m f space q q-g (g .room) start placed-g four-d five-d (in-five f zero-g))
-
-  pub memory-g : cond (length (entriesOf (s .memory)) under mostEntries)
-      (entriesOf (s .memory) ++ (entryOf c (requestTold q) ∷ [])) (entriesOf (s .memory))
-      ≡ remembered (granted d m v space .drive) v
-  unfolding granted
-  memory-g = rw (← alone-memory s f zero-g)
-      (memory-is d m f space q q-g (g .room) start placed-g four-d five-d (in-five f zero-g) (entryOf c (requestTold q)) entry-g)
+      ∙ rw (c-g, ← alone-home s f zero-g) (partition-is d m f space q q-g (g .room) start placed-g (alone-four s) (alone-five s) (in-five f zero-g))
 
   pub small-g : s .size ≤ largestMedium
   unfolding alone

@@ -1,13 +1,13 @@
 -- The share that the gate takes out of a drive, and the drive with an outcome put back: the last step of `gate`.
 use mathlib.Core.Path.{_≡_, refl, sym, ap, subst, _∙_}
 use mathlib.Core.Bool.{Bool, true, false, _&&_, _||_, not, cond}
-use mathlib.Core.List.{List, [], _∷_, map}
+use mathlib.Core.List.{List, [], _∷_, _++_, map}
 use Prim.Native.Nat.{ℕ, _≤_, _<_}
 use native.Mathlib.Omega.{arith}
 use lib.Dec.{leb}
 use lib.ListN.{length, getD, set, replicate}
 use borrow.Author.Tests.{leb-true, eq-eqb}
-use Rattle.lemmas.specs.Tests.{_is_, _isnt_, both}
+use Rattle.lemmas.specs.Tests.{_is_, _isnt_, _under_, both}
 use Rattle.lemmas.specs.Lists.{every, keep, update}
 use Rattle.lemmas.specs.ListLaws.{nth-map, every-nth, every-kept, every-imp, set-update}
 use Rattle.rules.specs.declared.Entry.{Entry}
@@ -29,12 +29,14 @@ use Rattle.rules.specs.Drive.{
 use Rattle.rules.specs.Operations.{home}
 use Rattle.rules.specs.Rows.{row1, remembered}
 use Rattle.rules.specs.Gate as rules·gate
+use Rattle.rules.specs.Gate.{gate}
 use Rattle.rules.proofs.Keeps.{refresh-sound, small-of, tables-of, memories-of}
 use Rattle.rules.proofs.Sound.{at-sound}
 use Rattle.rules.proofs.Memories.{short as short-list}
 use Rattle.wire.specs.declared.ParsedRequest.{ParsedRequest}
 use Rattle.wire.specs.declared.Parsed.the-variants.{Fields as Parsed·Fields}
-use Rattle.wire.specs.Parse.{frameRow, told, parseOf}
+use Rattle.wire.specs.Parse.{frameRow, told, parseOf, requestTold}
+use Rattle.judge.specs.Judge.{entryOf}
 use Rattle.wire.specs.ParseLaws.{fields-told}
 use Rattle.keyring.specs.View.{keysOf}
 use Rattle.memory.specs.declared.Memory.{Memory}
@@ -50,10 +52,10 @@ use Rattle.drive.specs.View.{view, entered, few, short, Counted}
 use Rattle.drive.specs.Share.{alone, admitted, Ready, Given}
 use Rattle.drive.specs.Met.{callOf, GateMet}
 use Rattle.drive.proofs.Frames.{in-four, in-five}
-use Rattle.drive.proofs.Turned.{noMemory, noPartition}
-use Rattle.drive.proofs.Serving.{alone-home, alone-memory}
+use Rattle.drive.proofs.Turned.{noMemory, noPartition, entered-is}
+use Rattle.drive.proofs.Serving.{alone-home, alone-memory, memory-entered}
 use Rattle.drive.proofs.Whole.{putBack, backIn, admitted-back}
-use Rattle.drive.proofs.Gates.{gate-admitted, drive-not-1, meets}
+use Rattle.drive.proofs.Gates.{gate-admitted, admitted-zero, admitted-refused, drive-not-1, meets}
 
 -- ---- row 1's test as the code makes it
 pub ready-row1 : (d : rules.Drive) (m : List ℕ) (b : Bool) → b ≡ (sound d && length m is d .size) → row1 d m ≡ not b
@@ -158,36 +160,15 @@ module _ (d₀ d : Drive) (clock : ℕ) (v : view d ≡ refresh clock (view d₀
     short = short-mem;
   }
 
-  -- ---- the outcome put back
+  row1-no : row1 (view d₀) m ≡ false
+  unfolding view row1
+  row1-no = ready-row1 (view d₀) m true (rw (whole, eq-eqb (length m) (d₀ .size) size) refl)
+
+  -- ---- an outcome, and what the gate makes of it
   module _ (space : List ℕ) (out : Outcome) (after replied : List ℕ)
       (given : Given (admitted (alone share) m x space) x out after replied) where
-    abbrev back : Drive
-    back = record {
-      size = d .size;
-      highwater = d .highwater;
-      keys = out .share .keys;
-      partitions = set (d .partitions) i (out .share .partition);
-      memories = set (d .memories) k (out .share .memory);
-    }
-
     abbrev a : rules·gate.Answer
     a = admitted (alone share) m x space
-
-    back-is : view back ≡ putBack (view d) x (a .drive)
-    unfolding view entered
-    back-is =
-        let p : viewed (out .share .partition) ≡ home (a .drive .tables) x =
-        viewed-is (out .share .partition) (given .few) ∙ given .partition in
-        let n : entered (out .share .memory) ≡ remembered (a .drive) x =
-        padded-is mostEntries noEntry (out .share .memory .count) (out .share .memory .entries) (given .short)
-        ∙ given .memory in
-        rw (
-          set-update viewed (d .partitions) i (out .share .partition) (home (a .drive .tables) x) p,
-          set-update entered (d .memories) k (out .share .memory) (remembered (a .drive) x) n,
-          given .keys,
-          i-is,
-          k-is,
-        ) refl
 
     whole-is : admitted (view d) m x space ≡ backIn (view d) x a
     unfolding alone view
@@ -195,15 +176,56 @@ module _ (d₀ d : Drive) (clock : ℕ) (v : view d ≡ refresh clock (view d₀
         (alone-home share f zero ∙ sym home-is) (alone-memory share f zero ∙ sym held-is) refl (in-four f zero) refl
         (in-five f zero) m space
 
-    row1-no : row1 (view d₀) m ≡ false
-    unfolding view row1
-    row1-no = ready-row1 (view d₀) m true (rw (whole, eq-eqb (length m) (d₀ .size) size) refl)
+    gate-is : gate (view d₀) m (callOf f clock space) ≡ admitted (view d) m x space
+    gate-is = gate-admitted (view d₀) m f clock space row1-no zero ∙ ap (λ (e : rules.Drive). admitted e m x space) (sym v)
 
-    pub met : GateMet d₀ m (callOf f clock space) (record { row = out .row; length = out .length; drive = back }) after
-        replied
-    met = meets d₀ m (callOf f clock space) (record { row = out .row; length = out .length; drive = back }) after replied
-        (backIn (view d) x a)
-        (gate-admitted (view d₀) m f clock space row1-no zero ∙ ap (λ (e : rules.Drive). admitted e m x space) (sym v) ∙ whole-is)
-        (given .row) (given .length) back-is
-        (λ k. absurd (drive-not-1 (alone share) m x space (sym (given .row) ∙ k)))
-        (given .medium) (given .space)
+    not-1 : out .row ≡ 1 → ⊥
+    not-1 k = drive-not-1 (alone share) m x space (sym (given .row) ∙ k)
+
+    -- a refusal leaves the drive
+    pub met-refused : (out .row ≡ 0 → ⊥) → (r : Answer) → r .row ≡ out .row → r .length ≡ 0 → r .drive ≡ d
+        → GateMet d₀ m (callOf f clock space) r after replied
+    met-refused z r row none e =
+        meets d₀ m (callOf f clock space) r after replied (admitted (view d) m x space) gate-is
+        (row ∙ given .row ∙ sym (ap (λ (b : rules·gate.Answer). b .row) whole-is))
+        (none ∙ sym (admitted-refused (view d) m x space zero-no .0)) (ap view e ∙ sym (admitted-refused (view d) m x space zero-no .1))
+        (λ k. absurd (not-1 (sym row ∙ k)))
+        (given .medium ∙ sym (ap (λ (b : rules·gate.Answer). b .medium) whole-is))
+        (given .space ∙ sym (ap (λ (b : rules·gate.Answer). b .space) whole-is))
+      where
+        zero-no : admitted (view d) m x space .row ≡ 0 → ⊥
+        zero-no k = z (given .row ∙ sym (ap (λ (b : rules·gate.Answer). b .row) whole-is) ∙ k)
+
+    -- a grant is put back, and its nonce entered
+    module _ (grant : out .row ≡ 0) (held : Memory)
+        (entries : entriesOf held ≡ cond (length (entriesOf mem) under mostEntries)
+        (entriesOf mem ++ (entryOf c (requestTold q) ∷ [])) (entriesOf mem)) (few-held : held .count ≤ mostEntries) where
+      abbrev back : Drive
+      back = record {
+        size = d .size;
+        highwater = d .highwater;
+        keys = out .keys;
+        partitions = set (d .partitions) i (out .partition);
+        memories = set (d .memories) k held;
+      }
+
+      held-in : entered held ≡ remembered (a .drive) x
+      held-in = entered-is held few-held ∙ entries
+          ∙ memory-entered share m f space c q ready (admitted-zero (alone share) m x space (sym (given .row) ∙ grant))
+
+      back-is : view back ≡ putBack (view d) x (a .drive)
+      unfolding view
+      back-is = rw (
+        set-update viewed (d .partitions) i (out .partition) (home (a .drive .tables) x)
+            (viewed-is (out .partition) (given .few) ∙ given .partition),
+        set-update entered (d .memories) k held (remembered (a .drive) x) held-in,
+        given .keys,
+        i-is,
+        k-is,
+      ) refl
+
+      pub met-granted : GateMet d₀ m (callOf f clock space) (record { row = 0; length = out .length; drive = back }) after
+          replied
+      met-granted = meets d₀ m (callOf f clock space) (record { row = 0; length = out .length; drive = back }) after replied
+          (backIn (view d) x a) (gate-is ∙ whole-is) (sym grant ∙ given .row) (given .length) back-is
+          (λ e. absurd (not-1 (grant ∙ e))) (given .medium) (given .space)

@@ -13,7 +13,7 @@ use Rattle.rules.specs.Frame.{Fields, fields}
 use Rattle.rules.specs.Drive as rules
 use Rattle.rules.specs.Drive.{lives, mostObjects, mostEntries, sound}
 use Rattle.rules.specs.Operations.{home}
-use Rattle.rules.specs.Rows.{driveRows, remembered}
+use Rattle.rules.specs.Rows.{driveRows}
 use Rattle.rules.specs.Gate as rules·gate
 use Rattle.rules.specs.Gate.{refused, granted}
 use Rattle.wire.specs.declared.ParsedRequest.{ParsedRequest}
@@ -52,14 +52,12 @@ pub record Ready (s : Share) (m f : List ℕ) (c : Credential) (q : ParsedReques
   pub few : s .partition .objects .count ≤ mostObjects
   pub short : s .memory .count ≤ mostEntries
 
--- an outcome is the rules' answer a, as far as the frame's share goes
+-- an outcome is the rules' answer a, as far as keys and the frame's partition go
 pub record Given (a : rules·gate.Answer) (x : Fields) (r : Outcome) (after replied : List ℕ) : Type 0 where
   pub row : r .row ≡ a .row
   pub length : r .length ≡ a .length
   pub medium : after ≡ a .medium
   pub space : replied ≡ a .space
-  pub keys : keysOf (r .share .keys) ≡ a .drive .tables .keys
-  pub partition : partitionOf (r .share .partition) ≡ home (a .drive .tables) x
-  pub memory : entriesOf (r .share .memory) ≡ remembered (a .drive) x
-  pub few : r .share .partition .objects .count ≤ mostObjects
-  pub short : r .share .memory .count ≤ mostEntries
+  pub keys : keysOf (r .keys) ≡ a .drive .tables .keys
+  pub partition : partitionOf (r .partition) ≡ home (a .drive .tables) x
+  pub few : r .partition .objects .count ≤ mostObjects

@@ -78,4 +78,3 @@ pub record Granting (s : Share) (seen : Mac) (k m f space : List ℕ) (c : Crede
   pub place : start
       ≡ cond (fields f .req .operation isnt 5) none (placeOf (quarter (s .size)) (alone s .tables) (fields f))
   pub few : s .partition .objects .count ≤ mostObjects
-  pub short : s .memory .count ≤ mostEntries

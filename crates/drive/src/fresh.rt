@@ -1,13 +1,13 @@
-// Row 1, and what every call does first: the mark rises, outlived entries go.
+// Row 1, and the mark.
 ghost use mathlib.Core.Path.{_≡_};
 ghost use mathlib.Core.Bool.{true, _&&_};
 ghost use mathlib.Core.List.{map};
 ghost use Prim.Native.Nat.{max};
 ghost use lib.ListN.{length};
 ghost use lib.Dec.{leb};
-ghost use Rattle.lemmas.specs.Lists.{every, keep};
+ghost use Rattle.lemmas.specs.Lists.{every};
 ghost use Rattle.lemmas.specs.Tests.{_is_};
-ghost use Rattle.rules.specs.Drive.{mostEntries, soundPartition, sound, refresh, lives};
+ghost use Rattle.rules.specs.Drive.{mostEntries, soundPartition, sound};
 ghost use Rattle.partition.specs.Partition.{viewed};
 ghost use Rattle.drive.specs.View.{entered, view, few, short, Counted};
 use super::Drive;
@@ -61,29 +61,8 @@ pub fn is_ready(d: Drive, n: usize) -> bool
 }
 
 // The later of two times.
-fn later(a: u64, b: u64) -> u64
+pub fn later(a: u64, b: u64) -> u64
     ensures { λ r. ⌜ r ≡ max a b ⌝ }
 {
     if a < b { b } else { a }
-}
-
-// The drive at a clock reading: the mark is the later one, outlived entries are gone. A memory that has none is not
-// written.
-pub fn refreshed(d: Drive, clock: u64) -> Drive
-    requires { ⌜ Counted d ⌝ }
-    ensures { λ r. ⌜ (view r ≡ refresh clock (view d)) × Counted r ⌝ }
-{
-    let mark = later(d.highwater, clock);
-    let mut r = d;
-    r.highwater = mark;
-    let mut i = 0;
-    while i < 5 {
-        let k = i;
-        let m = d.memories[k];
-        i += 1;
-        if memory::stale(m, mark) {
-            r.memories[k] = memory::purged(m, mark);
-        }
-    }
-    r
 }

@@ -43,11 +43,12 @@ struct Share {
     memory: Memory,
 }
 
-// Row and reply length, and the share after the call.
+// Row and reply length, and the keys and the partition after the call.
 struct Outcome {
     row: u32,
     length: usize,
-    share: Share,
+    keys: Keys,
+    partition: Partition,
 }
 
 // Makes a medium a drive's: every byte becomes 0. Refused, the medium stays as it is, and the drive returned has nothing.
@@ -68,25 +69,29 @@ pub fn format(medium: &mut [u8], first: u32, master: &[u8], key: &[u8]) -> Forma
     Formatted { row: 0, drive }
 }
 
-// Puts a frame to the drive at a clock reading: a grant, its reply at the start of `reply`; or one row number.
+// Puts a frame to the drive at a clock reading: a grant, its reply at the start of `reply`; or one row number. What every
+// call does first stands here, and not in a function of its own: a drive that is handed on is copied, 9 KB each time.
 pub fn gate(drive: Drive, medium: &mut [u8], frame: &[u8], clock: u64, reply: &mut [u8]) -> Answer
     ensures { λ r. ⌜ GateMet drive (now (medium .entry)) (callOf (now (frame .entry)) clock (now (reply .entry))) r (now (medium .exit)) (now (reply .exit)) ⌝ }
 {
     if !fresh::is_ready(drive, medium.len()) {
-        return Answer {
-            row: 1,
-            length: 0,
-            drive: drive,
-        };
+        return refused(1, drive);
     }
-    let mut d = fresh::refreshed(drive, clock);
+    let mark = fresh::later(drive.highwater, clock);
+    let mut d = drive;
+    d.highwater = mark;
+    let mut n = 0;
+    while n < 5 {
+        let j = n;
+        let m = d.memories[j];
+        n += 1;
+        if memory::stale(m, mark) {
+            d.memories[j] = memory::purged(m, mark);
+        }
+    }
     let parsed = wire::parse(frame);
     let Parsed::Fields(c, q) = parsed else {
-        return Answer {
-            row: wire::row_of(parsed),
-            length: 0,
-            drive: d,
-        };
+        return refused(wire::row_of(parsed), d);
     };
     let i = c.partition as usize;
     let k = serve::memory_of(c);
@@ -101,16 +106,30 @@ pub fn gate(drive: Drive, medium: &mut [u8], frame: &[u8], clock: u64, reply: &m
         memory,
     };
     let out = serve::serve(share, medium, frame, reply, c, q);
-    let after = out.share;
-    let keys = after.keys;
-    let partition = after.partition;
-    let memory = after.memory;
+    if out.row != 0 {
+        return refused(out.row, d);
+    }
+    let keys = out.keys;
+    let partition = out.partition;
+    let held = d.memories[k];
+    let memory = memory::enter(held, judge::entry_of(c, wire::numbers(q)));
     d.keys = keys;
     d.partitions[i] = partition;
     d.memories[k] = memory;
     Answer {
-        row: out.row,
+        row: 0,
         length: out.length,
         drive: d,
+    }
+}
+
+// A refusal: the row, no reply, and the drive.
+fn refused(row: u32, drive: Drive) -> Answer
+    ensures { λ r. ⌜ (r .row ≡ row) × (r .length ≡ 0) × (r .drive ≡ drive) ⌝ }
+{
+    Answer {
+        row,
+        length: 0,
+        drive,
     }
 }

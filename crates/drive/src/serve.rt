@@ -94,7 +94,7 @@ fn site_of(size: usize, p: Partition, c: Credential, place: Place) -> Site
     }
 }
 
-// A grant: the reply, the medium, and the share after it.
+// A grant: the reply and the medium, and the keys and the partition after it. The memory is left to the caller.
 fn grant(
     share: Share,
     seen: Mac,
@@ -112,34 +112,30 @@ fn grant(
     let r = wire::numbers(q);
     let o = q.operation;
     let p = share.partition;
-    let m = share.memory;
     let keys = share.keys;
     let s = site_of(share.size, p, c, place);
     let end = frame.len() - 32;
     effect::put_reply(reply, medium, seen, r, o, s);
     effect::put_bytes(medium, &frame[64..end], o, s);
-    let after = Share {
-        size: share.size,
-        highwater: share.highwater,
-        keys: effect::keys_after(keys, o, c.slot, c.partition as usize, key, &frame[36..end]),
-        partition: partition::after(p, o, c.object, s.next, s.place),
-        memory: memory::enter(m, judge::entry_of(c, r)),
-    };
     Outcome {
         row: 0,
         length: reply::reply_length(r) as usize,
-        share: after,
+        keys: effect::keys_after(keys, o, c.slot, c.partition as usize, key, &frame[36..end]),
+        partition: partition::after(p, o, c.object, s.next, s.place),
     }
 }
 
 // A refusal: nothing changes.
 fn refusal(row: u32, share: Share) -> Outcome
-    ensures { λ r. ⌜ (r .row ≡ row) × (r .length ≡ 0) × (r .share ≡ share) ⌝ }
+    ensures { λ r. ⌜ (r .row ≡ row) × (r .length ≡ 0) × (r .keys ≡ share .keys) × (r .partition ≡ share .partition) ⌝ }
 {
+    let keys = share.keys;
+    let partition = share.partition;
     Outcome {
-        row: row,
+        row,
         length: 0,
-        share: share,
+        keys,
+        partition,
     }
 }
 

@@ -8,20 +8,19 @@ use Rattle.rules.specs.Frame.{fields}
 use Rattle.rules.specs.Gate.{granted}
 use Rattle.rules.specs.Operations.{credentialKey, replyLength}
 use Rattle.keyring.specs.View.{keysOf}
-use Rattle.memory.specs.Memory.{entriesOf}
 use Rattle.placing.specs.Placing.{told}
 use Rattle.wire.specs.Parse.{requestTold}
 use Rattle.drive.specs.Share.{alone}
 use Rattle.drive.proofs.Frames.{the-payload, request-and-data}
-use Rattle.drive.proofs.Serving.{medium-g, space-g, length-g, keys-g, partition-g, memory-g, small-g, four-g}
+use Rattle.drive.proofs.Serving.{medium-g, space-g, length-g, keys-g, partition-g, small-g, four-g}
 use borrow.Author.Needs.{needs}
 use Rattle.drive.proofs.serve.grant.Statement.{statement}
 use Rattle.drive.proofs.serve.grant.Tie as tie
 
 site-of-requires : tie.Need-site-of-requires
 site-of-requires c κs =
-    let a = c .before .before .before .before .before .before .before .before .args in
-    let pre = c .before .before .before .before .before .before .before .before .pre in
+    let a = c .before .before .before .before .before .before .before .args in
+    let pre = c .before .before .before .before .before .before .before .pre in
     (small-g (a .share) (a .seen) (a .key .now) (a .medium .now) (a .frame .now) (a .reply .now) (a .c) (a .q) (told (a .place)) pre, four-g (a .share) (a .seen) (a .key .now) (a .medium .now) (a .frame .now) (a .reply .now) (a .c) (a .q) (told (a .place)) pre)
 
 sub-keys-after : tie.Need-sub-keys-after
@@ -31,31 +30,29 @@ part-keys-after-start : tie.Need-part-keys-after-start
 part-keys-after-start c = let h = c .before .before .before .before .before .before .before .before .before .before .before .before .before .before .before .before .before .before .before .before .pre .long in search needs
 
 same-length-2 : tie.Need-same-length-2
-same-length-2 c = c .before .before .before .before .before .before .before .before .before .before .before .before .before .before .put-reply .kept .0
+same-length-2 c = c .before .before .before .before .before .before .before .before .before .before .before .before .put-reply .kept .0
 
 returns : tie.Need-returns
 unfolding granted
 returns c =
-    let a = c .before .before .before .before .before .before .before .before .before .before .before .before .before .before .before .before .before .before .before .before .before .before .before .before .before .before .args in
-    let pre = c .before .before .before .before .before .before .before .before .before .before .before .before .before .before .before .before .before .before .before .before .before .before .before .before .before .before .pre in
+    let a = c .before .before .before .before .before .before .before .before .before .before .before .before .before .before .before .before .before .before .before .before .before .before .before .args in
+    let pre = c .before .before .before .before .before .before .before .before .before .before .before .before .before .before .before .before .before .before .before .before .before .before .before .pre in
     let f = a .frame .now in
     let x = fields f in
-    let r = c .before .before .before .before .before .before .before .before .before .before .before .before .before .before .before .before .before .before .before .before .before .numbers .ensures in
-    let site = c .before .before .before .before .before .before .before .before .before .before .before .before .before .before .before .before .before .site-of .ensures in
+    let r = c .before .before .before .before .before .before .before .before .before .before .before .before .before .before .before .before .before .before .numbers .ensures in
+    let site = c .before .before .before .before .before .before .before .before .before .before .before .before .before .before .before .site-of .ensures in
     record {
       row = refl;
-      length = c .reply-length .ensures ∙ ap replyLength r ∙ length-g (a .share) (a .seen) (a .key .now) (a .medium .now) (a .frame .now) (a .reply .now) (a .c) (a .q) (told (a .place)) pre;
-      medium = rw (c .before .before .before .before .before .before .before .before .before .put-bytes .ensures, site, the-payload f (pre .long)) (medium-g (a .share) (a .seen) (a .key .now) (a .medium .now) (a .frame .now) (a .reply .now) (a .c) (a .q) (told (a .place)) pre);
+      length = c .before .before .before .before .reply-length .ensures ∙ ap replyLength r ∙ length-g (a .share) (a .seen) (a .key .now) (a .medium .now) (a .frame .now) (a .reply .now) (a .c) (a .q) (told (a .place)) pre;
+      medium = rw (c .before .before .before .before .before .before .before .put-bytes .ensures, site, the-payload f (pre .long)) (medium-g (a .share) (a .seen) (a .key .now) (a .medium .now) (a .frame .now) (a .reply .now) (a .c) (a .q) (told (a .place)) pre);
       space = rw (
-        c .before .before .before .before .before .before .before .before .before .before .before .before .before .before .put-reply .ensures (credentialKey (alone (a .share) .tables .keys) x) (x .credential ++ x .request) (pre .keyed),
+        c .before .before .before .before .before .before .before .before .before .before .before .before .put-reply .ensures (credentialKey (alone (a .share) .tables .keys) x) (x .credential ++ x .request) (pre .keyed),
         site,
         r,
       ) (space-g (a .share) (a .seen) (a .key .now) (a .medium .now) (a .frame .now) (a .reply .now) (a .c) (a .q) (told (a .place)) pre);
-      keys = rw (c .before .before .before .before .keys-after .ensures, request-and-data f (pre .long)) (keys-g (a .share) (a .seen) (a .key .now) (a .medium .now) (a .frame .now) (a .reply .now) (a .c) (a .q) (told (a .place)) pre);
-      partition = rw (c .before .before .before .after .ensures .0, site) (partition-g (a .share) (a .seen) (a .key .now) (a .medium .now) (a .frame .now) (a .reply .now) (a .c) (a .q) (told (a .place)) pre);
-      memory = rw (c .before .enter .ensures .0, c .before .before .entry-of .ensures, r) (memory-g (a .share) (a .seen) (a .key .now) (a .medium .now) (a .frame .now) (a .reply .now) (a .c) (a .q) (told (a .place)) pre);
-      few = c .before .before .before .after .ensures .1 (pre .few);
-      short = c .before .enter .ensures .1;
+      keys = rw (c .before .keys-after .ensures, request-and-data f (pre .long)) (keys-g (a .share) (a .seen) (a .key .now) (a .medium .now) (a .frame .now) (a .reply .now) (a .c) (a .q) (told (a .place)) pre);
+      partition = rw (c .after .ensures .0, site) (partition-g (a .share) (a .seen) (a .key .now) (a .medium .now) (a .frame .now) (a .reply .now) (a .c) (a .q) (told (a .place)) pre);
+      few = c .after .ensures .1 (pre .few);
     }
 
 pub grant-spec : {M : Type 1} → statement M
@@ -63,6 +60,6 @@ grant-spec =
     tie.close
     (tie.spec
     (λ c κs. search needs) site-of-requires (λ c. search needs) (λ c κs. search needs) (λ c. search needs)
-    (λ c. search needs) (λ c. search needs) (λ c κs. search needs) (λ c. search needs) sub-keys-after
-    part-keys-after-start (λ c. search needs) (λ c κs. search needs) (λ c κs. search needs) (λ c κs. search needs)
-    (λ c κs. search needs) (λ c κs. search needs) (λ c. search needs) same-length-2 returns)
+    (λ c. search needs) (λ c. search needs) (λ c κs. search needs) (λ c κs. search needs) (λ c. search needs)
+    sub-keys-after part-keys-after-start (λ c. search needs) (λ c κs. search needs) (λ c κs. search needs)
+    (λ c. search needs) same-length-2 returns)

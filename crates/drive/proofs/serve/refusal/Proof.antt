@@ -1,10 +1,10 @@
--- Row and share as they came.
+-- Row, keys and partition as they came.
 use mathlib.Core.Path.{refl}
 use Rattle.drive.proofs.serve.refusal.Statement.{statement}
 use Rattle.drive.proofs.serve.refusal.Tie as tie
 
 returns : tie.Need-returns
-returns c = (refl, refl, refl)
+returns c = (refl, refl, refl, refl)
 
 pub refusal-spec : {M : Type 1} → statement M
 refusal-spec = tie.close (tie.spec returns)

@@ -69,7 +69,7 @@ returns c =
     let k = c .before .before .before .key-in in
     let e = c .refusal .ensures in
     refusal-given (a .share) (a .medium .now) (a .frame .now) (a .reply .now) (a .c) (a .q) pre (c .refusal .result) 8 (eight (a .share) (a .medium .now) (a .frame .now) (a .reply .now) (a .c) (a .q) pre (k .result) (k .ensures) (not-true (k .result .set) (c .before .if1 .taken)))
-    (λ z. omega arith) (e .0) (e .1) (e .2)
+    (λ z. omega arith) (e .0) (e .1) (e .2) (e .3)
 
 opened-requires : tie.Need-opened-requires
 opened-requires c κs =
@@ -93,7 +93,7 @@ returns-2 c =
     let e = c .refusal2 .ensures in
     refusal-given (a .share) (a .medium .now) (a .frame .now) (a .reply .now) (a .c) (a .q) pre (c .refusal2 .result) 9
     (nine (a .share) (a .medium .now) (a .frame .now) (a .reply .now) (a .c) (a .q) pre (k .result) (k .ensures) (set-of (c .before .before .before .before .before .before)) (g .result) (g .ensures (credentialKey (alone (a .share) .tables .keys) (fields (a .frame .now))) (keyed-of (c .before .before .before))) (not-true (g .result) (c .before .if2 .taken)))
-    (λ z. omega arith) (e .0) (e .1) (e .2)
+    (λ z. omega arith) (e .0) (e .1) (e .2) (e .3)
 
 cast-place-for : tie.Need-cast-place-for
 cast-place-for c =
@@ -107,7 +107,7 @@ returns-3 c =
     let a = c .before .before .before .before .before .before .before .before .before .before .before .before .before .before .before .before .before .before .before .before .before .before .args in
     let pre = c .before .before .before .before .before .before .before .before .before .before .before .before .before .before .before .before .before .before .before .before .before .before .pre in
     let e = c .refusal3 .ensures in
-    refusal-given (a .share) (a .medium .now) (a .frame .now) (a .reply .now) (a .c) (a .q) pre (c .refusal3 .result) (c .before .before .judge .result) (row-of (c .before .before)) (c .before .if3 .taken) (e .0) (e .1) (e .2)
+    refusal-given (a .share) (a .medium .now) (a .frame .now) (a .reply .now) (a .c) (a .q) pre (c .refusal3 .result) (c .before .before .judge .result) (row-of (c .before .before)) (c .before .if3 .taken) (e .0) (e .1) (e .2) (e .3)
 
 slice-aggregate-grant : tie.Need-slice-aggregate-grant
 slice-aggregate-grant c = sym (secret-long (c .before .before .before .before .before .before .before .before .before .before .before .before .before))
@@ -125,7 +125,6 @@ grant-requires c κs =
       key = sym (signing-is (a .share) (a .medium .now) (a .frame .now) (a .reply .now) (a .c) (a .q) pre (k .result) (k .ensures) (set-of (c .before .before .before .before .before .before .before .before .before .before .before .before .before)));
       place = c .before .before .before .before .before .place-for .ensures ∙ ap (placeFor (quarter (a .share .size)) (a .share .partition .objects)) (c .before .before .before .before .before .before .numbers .ensures) ∙ placed-is (a .share) (a .medium .now) (a .frame .now) (a .reply .now) (a .c) (a .q) pre;
       few = pre .few;
-      short = pre .short;
     }
 
 returns-4 : tie.Need-returns-4
