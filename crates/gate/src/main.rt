@@ -11,6 +11,7 @@ ghost use Rattle.rules.specs.Program.{ended as Program·ended};
 ghost use Rattle.record.specs.Text.{TextPut};
 ghost use Rattle.gate.specs.Answered.{stateOf};
 ghost use Rattle.gate.specs.Serving.{NextMet, ServeMet, DrainMet, Held, RoomMet, FetchMet, Ready};
+use drive::Answer;
 use libc::STDIN_FILENO;
 use libc::STDOUT_FILENO;
 use record::Arrived;
@@ -110,7 +111,11 @@ fn serve(
     requires { ⌜ (calls + length (now input) < 2 ^ 64) × (64 ≤ length (now out)) × (length (now reply) ≡ 65536) ⌝ }
     ensures { λ r. ⌜ ServeMet (stateOf drive (now (medium .entry))) calls (now (input .entry)) (stateOf (r .drive) (now (medium .exit))) (r .calls) (r .taken) (r .put) (now (out .exit)) ⌝ }
 {
-    let mut d = drive;
+    let mut a = Answer {
+        row: 0,
+        length: 0,
+        drive,
+    };
     let mut taken: usize = 0;
     let mut n = calls;
     let mut put: usize = 0;
@@ -122,12 +127,13 @@ fn serve(
         }
         let start = taken + record::HEAD_SIZE;
         let end = taken + size;
-        let a = drive::gate(d, medium, &input[start..end], w.clock, reply);
+        let d = a.drive;
+        a = drive::gate(d, medium, &input[start..end], w.clock, reply);
         n += 1;
         taken = end;
         put = record::put_line(out, put, n, a.row, a.length);
-        d = a.drive;
     }
+    let d = a.drive;
     Served {
         drive: d,
         taken,

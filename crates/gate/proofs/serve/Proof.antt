@@ -1,6 +1,7 @@
 -- The loop's invariant: calls and bytes of out keep step with the bytes taken.
 use mathlib.Core.Path.{_≡_, refl, sym, ap, subst, _∙_}
 use mathlib.Core.Bool.{true, false}
+use mathlib.Core.Logic.{⊎-elim}
 use mathlib.Core.List.{List, _++_}
 use Prim.Native.Nat.{ℕ, _+_, _-_, _≤_, _<_}
 use native.Mathlib.Omega.{arith}
@@ -17,13 +18,13 @@ use Rattle.gate.proofs.serve.Statement.{statement}
 use Rattle.gate.proofs.serve.Tie as tie
 
 abbrev Inv-loop : tie.InvT-loop
-Inv-loop medium₀ input calls reply₀ out₀ d₀ taken₀ n₀ put₀ medium reply out d taken n put =
+Inv-loop medium₀ input calls reply₀ out₀ a₀ taken₀ n₀ put₀ medium reply out a taken n put =
     (taken ≤ length input) × (n ≤ calls + taken) × (put ≤ length out) × (taken ≡ 0 → put ≡ 0)
     × (length medium ≡ length medium₀) × (length reply ≡ length reply₀) × (length out ≡ length out₀)
-    × (calls ≤ n) × Said (stateOf d₀ medium₀) calls input (stateOf d medium) n taken (take put out)
+    × (calls ≤ n) × Said (stateOf (a₀ .drive) medium₀) calls input (stateOf (a .drive) medium) n taken (take put out)
 
 abbrev μ-loop : tie.MeasureT-loop
-μ-loop medium₀ input calls reply₀ out₀ d₀ taken₀ n₀ put₀ medium reply out d taken n put = length input - taken
+μ-loop medium₀ input calls reply₀ out₀ a₀ taken₀ n₀ put₀ medium reply out a taken n put = length input - taken
 
 -- the record found lies within the input, and is a head at least
 found : (c : tie.Else1 Inv-loop μ-loop)
@@ -57,7 +58,7 @@ whole c =
     (b, m .reading ∙ (rw b), m .counted ∙ (rw b))
 
 -- the place of the call, seen from the end of a turn
-abbrev called : tie.After-d Inv-loop μ-loop → tie.Else1 Inv-loop μ-loop
+abbrev called : tie.After-slice-known6 Inv-loop μ-loop → tie.Else1 Inv-loop μ-loop
 called c = c .before .before .before .before .before .before .before .before .before .before .before .before .before
 
 loop-holds : tie.Need-loop-holds Inv-loop μ-loop
@@ -81,21 +82,21 @@ add-end : tie.Need-add-end Inv-loop μ-loop
 add-end c = let f = found c in omega (arith, f .0, f .1)
 
 sub-gate : tie.Need-sub-gate Inv-loop μ-loop
-sub-gate c = omega (arith, found (c .before) .1)
+sub-gate c = omega (arith, found (c .before .before) .1)
 
 part-gate-start : tie.Need-part-gate-start Inv-loop μ-loop
 part-gate-start c =
-    let l = c .before .before .before .before .before .loop in
-    let g : l .taken + 14 ≤ l .taken + c .before .before .whole-record .result .size =
-    omega (arith, found (c .before) .1) in
+    let l = c .before .before .before .before .before .before .loop in
+    let g : l .taken + 14 ≤ l .taken + c .before .before .before .whole-record .result .size =
+    omega (arith, found (c .before .before) .1) in
     g
 
 part-gate-end : tie.Need-part-gate-end Inv-loop μ-loop
-part-gate-end c = found (c .before) .0
+part-gate-end c = found (c .before .before) .0
 
 add-n : tie.Need-add-n Inv-loop μ-loop
 add-n c =
-    let e = c .before .before .before .before .before .before .before .before in
+    let e = c .before .before .before .before .before .before .before .before .before in
     let f = found e in
     let start = e .before .before .before .before .before .before .before .before .before in
     omega (arith, f .0, f .1, e .before .before .before .before .loop .inv .1, start .pre .0)
@@ -111,8 +112,8 @@ loop-again c =
     let f = found e in
     let l = e .before .before .before .before .loop in
     let start = e .before .before .before .before .before .before .before .before .before in
-    let g = c .before .before .before .before .before .before .before .before .before .gate in
-    let p = c .before .before .before .put-line in
+    let g = c .before .before .before .before .before .before .before .before .gate in
+    let p = c .before .before .put-line in
     let t : List ℕ = printed (l .n + 1) (g .result .row) (g .result .length) in
     let same : length (p .last .0) ≡ length (l .out) = search needs in
     let place : p .result ≡ placeAfter (length (l .out)) (l .put) (length t) = p .ensures .1 in
@@ -127,22 +128,22 @@ loop-again c =
     text-put (l .out) (l .put) t (p .result) (p .last .0) room (p .ensures) in
     let input : List ℕ = start .args .input .now in
     let w = whole e in
-    let h : GateMet (l .d) (l .medium)
+    let h : GateMet (l .a .drive) (l .medium)
     (callOf (callIn (drop (l .taken) input) .frame) (callIn (drop (l .taken) input) .clock) (l .reply)) (g .result)
     (g .last .1 .0) (g .last .1 .1 .1 .1 .0) =
     subst
-    (λ (x : List ℕ). GateMet (l .d) (l .medium) (callOf x (callIn (drop (l .taken) input) .clock) (l .reply))
+    (λ (x : List ℕ). GateMet (l .a .drive) (l .medium) (callOf x (callIn (drop (l .taken) input) .clock) (l .reply))
     (g .result) (g .last .1 .0) (g .last .1 .1 .1 .1 .0))
     (frame-lent input (l .taken) (e .before .whole-record .result .size) (w .2))
     (subst
-    (λ (x : ℕ). GateMet (l .d) (l .medium)
+    (λ (x : ℕ). GateMet (l .a .drive) (l .medium)
     (callOf (take ((l .taken + e .before .whole-record .result .size) - (l .taken + 14)) (drop (l .taken + 14) input)) x
     (l .reply)) (g .result) (g .last .1 .0) (g .last .1 .1 .1 .1 .0))
     (w .1) (g .ensures)) in
-    let a = answered (l .d) (l .medium) (drop (l .taken) input) (l .reply) (g .result) (g .last .1 .0)
+    let a = answered (l .a .drive) (l .medium) (drop (l .taken) input) (l .reply) (g .result) (g .last .1 .0)
     (g .last .1 .1 .1 .1 .0) (l .inv .5 ∙ start .pre .2) h in
     let more = said-call (stateOf (start .args .drive) (start .args .medium .now)) (start .args .calls) input
-    (stateOf (l .d) (l .medium)) (l .n) (l .taken) (take (l .put) (l .out)) (g .result .row) (g .result .length)
+    (stateOf (l .a .drive) (l .medium)) (l .n) (l .taken) (take (l .put) (l .out)) (g .result .row) (g .result .length)
     (stateOf (g .result .drive) (g .last .1 .0)) (l .inv .8) (l .inv .7) (w .0) (a .0) (a .1) (a .2) in (
       f .0,
       omega (arith, f .1, l .inv .1),
@@ -162,34 +163,27 @@ loop-again c =
           (take (l .put) (l .out) ++ t)) (sym (w .2)) more),
     )
 
+-- the loop was left for want of room, or of a whole record
 returns : tie.Need-returns Inv-loop μ-loop
 returns c =
-    let l = c .before .loop in
+    let l = c .before .before .loop in
+    let a = c .before .before .before .before .before .before .before .args in
     record {
       said = l .inv .8;
       more = l .inv .7;
       counted = l .inv .1;
       within = l .inv .0;
       fits = l .inv .2;
-      stuck = λ z. absurd (omega (arith, l .inv .3 z, l .inv .6));
-    }
-
-returns-2 : tie.Need-returns-2 Inv-loop μ-loop
-returns-2 c =
-    let l = c .before .before .before .before .loop in
-    let a = c .before .before .before .before .before .before .before .before .before .args in
-    let w = c .before .whole-record in
-    let s : List ℕ = rest (a .input .now) (l .taken) in
-    let m : NextMet s (w .result .clock) (w .result .size) = w .ensures in
-    let none : broken s ≡ true = next-stuck s (w .result .clock) (w .result .size) m (c .if1 .taken) in
-    record {
-      said = l .inv .8;
-      more = l .inv .7;
-      counted = l .inv .1;
-      within = l .inv .0;
-      fits = l .inv .2;
-      stuck = λ z. subst (λ (x : List ℕ). broken x ≡ true)
-          (rest-all (a .input .now) (l .taken) ∙ ap (λ (k : ℕ). drop k (a .input .now)) z) none;
+      stuck = λ z.
+          ⊎-elim
+          (λ t. absurd (omega (arith, t .left, l .inv .3 z, l .inv .6)))
+          (λ t.
+          let s : List ℕ = rest (a .input .now) (l .taken) in
+          let m : NextMet s (t .2 .result .clock) (t .2 .result .size) = t .2 .ensures in
+          subst (λ (x : List ℕ). broken x ≡ true)
+          (rest-all (a .input .now) (l .taken) ∙ ap (λ (k : ℕ). drop k (a .input .now)) z)
+          (next-stuck s (t .2 .result .clock) (t .2 .result .size) m (t .3 .taken)))
+          (c .before .loop-test .came);
     }
 
 pub serve-spec : {M : Type 1} → statement M
@@ -198,5 +192,4 @@ serve-spec =
     (tie.spec
     Inv-loop μ-loop loop-holds (λ c. omega arith) (λ c. omega arith) (λ c. search needs) (λ c. search needs)
     (λ c κs. tt) add-start add-end sub-gate part-gate-start part-gate-end (λ c κs. tt) add-n (λ c κs. tt) loop-less
-    loop-again (λ c. omega arith) (λ c. omega arith) (λ c. omega arith) returns (λ c. omega arith) (λ c. omega arith)
-    (λ c. omega arith) returns-2)
+    loop-again (λ c. omega arith) (λ c. omega arith) (λ c. omega arith) returns)
