@@ -1,4 +1,6 @@
-// What the scenarios are played with: frames are built and put to the gate; row and reply are printed.
+// A library for tests: what the scenarios of the programs `scenario_*` are played with. Frames are built and put to
+// drive::gate; the row and the reply, in hexadecimal, are printed, and each program's file `stdout` has what they must
+// be. These functions print, and promise only what their clauses say.
 ghost use mathlib.Core.Path.{_≡_};
 ghost use Prim.Native.Nat.{_≤_};
 ghost use lib.ListN.{length};
@@ -6,11 +8,11 @@ ghost use Rattle.io.specs.Counts.{Counts};
 use drive::Drive;
 use libc::STDOUT_FILENO;
 use rules::Credential;
-use rules::Object;
 use rules::Request;
+use state::Objects;
 
 // The largest expiry.
-pub const NEVER: u64 = 0xffffffffffffffff;
+const NEVER: u64 = 0xffffffffffffffff;
 
 // No scenario builds a longer frame, or calls for a longer reply.
 const SPACE: usize = 160;
@@ -113,11 +115,14 @@ fn print_number(x: u64) {
     io::print_decimal(STDOUT_FILENO, x);
 }
 
-fn print_object(o: Object) {
-    print_number(o.number as u64);
-    print_number(o.version as u64);
-    print_number(o.size as u64);
-    print_number(o.start as u64);
+// How many objects there are, and the second one's fields.
+fn print_objects(os: Objects) {
+    let second = os.items[1];
+    print_number(os.count as u64);
+    print_number(second.number as u64);
+    print_number(second.version as u64);
+    print_number(second.size as u64);
+    print_number(second.start as u64);
 }
 
 // M and mark; of partition 0 how many objects, the second one's fields, how many entries.
@@ -125,13 +130,11 @@ pub fn show_record(w: World) {
     let d = w.drive;
     let p = d.partitions[0];
     let os = p.objects;
-    let second = os.items[1];
     let m = d.memories[0];
     print(b"record:");
     print_number(d.size as u64);
     print_number(d.highwater);
-    print_number(os.count as u64);
-    print_object(second);
+    print_objects(os);
     print_number(m.count as u64);
     print(b"\n");
 }
@@ -285,35 +288,37 @@ pub fn ask(w: World, label: &[u8], c: Credential, q: Request, clock: u64) -> Wor
     send(w, label, c, q, b"", clock)
 }
 
-// A drive of first version `first` in which partition 0 has its own key and working key 0. The clock is at 0.
-pub fn ready(first: u32) -> World {
-    let mut medium = new_medium();
-    let f = drive::format(&mut medium, first, &[0u8; 32], &[1u8; 32]);
-    show(b"format", f.row as u64);
-    let drive = f.drive;
-    let w = World { drive, medium };
-    let w = send(
-        w,
-        b"set partition key 0",
-        cred(0, 3, 0, 0, 1),
-        req(7, 1, 0, 1, 0, 0),
-        b"partition 0 seed",
-        0,
-    );
+// Sets the key that the key in a slot sets with A = 0.
+pub fn set_key(w: World, label: &[u8], slot: u8, holder: u32, count: u32, seed: &[u8]) -> World {
     send(
         w,
-        b"set working key 0",
-        cred(0, 2, 0, 0, 1),
-        req(7, 1, 0, 2, 0, 0),
-        b"working 0 0 seed",
+        label,
+        cred(0, slot, 0, 0, holder),
+        req(7, 1, 0, count, 0, 0),
+        seed,
         0,
     )
 }
 
+fn formatted(first: u32) -> World {
+    let mut medium = new_medium();
+    let f = drive::format(&mut medium, first, &[0u8; 32], &[1u8; 32]);
+    show(b"format", f.row as u64);
+    let drive = f.drive;
+    World { drive, medium }
+}
+
+// A drive of first version `first` in which partition 0 has its own key and working key 0. The clock is at 0.
+pub fn ready(first: u32) -> World {
+    let mut w = formatted(first);
+    w = set_key(w, b"set partition key 0", 3, 1, 1, b"partition 0 seed");
+    set_key(w, b"set working key 0", 2, 1, 2, b"working 0 0 seed")
+}
+
 // The same with object 1 of 40 bytes, version 2, its first 20 bytes written. The clock is at 0.
 pub fn stocked() -> World {
-    let w = ready(1);
-    let w = ask(
+    let mut w = ready(1);
+    w = ask(
         w,
         b"create object 1 of 40 bytes",
         cred(0, 0, 0, 1, 1),

@@ -1,34 +1,40 @@
 // Reply spaces and media that are too short; records that are not sound; drives of a format refused.
-use super::play::World;
-use super::play::ask;
-use super::play::cred;
-use super::play::frame;
-use super::play::heading;
-use super::play::key_in;
-use super::play::most;
-use super::play::new_space;
-use super::play::put_short;
-use super::play::put_within;
-use super::play::put_without;
-use super::play::req;
-use super::play::show;
-use super::play::show_held;
-use super::play::show_mark;
-use super::play::show_record;
-use super::play::stocked;
+use drive::Drive;
 use rules::Object;
+use scenario::World;
+use scenario::ask;
+use scenario::cred;
+use scenario::frame;
+use scenario::heading;
+use scenario::key_in;
+use scenario::most;
+use scenario::new_space;
+use scenario::put_short;
+use scenario::put_within;
+use scenario::put_without;
+use scenario::req;
+use scenario::show;
+use scenario::show_held;
+use scenario::show_mark;
+use scenario::show_record;
+use scenario::stocked;
 
-// A look at object 1 with so many bytes of reply space.
-fn look_within(w: World, label: &[u8], level: u8, count: u32, room: usize) -> World {
+// The frame of a look at object 1.
+fn look_frame(w: World, level: u8, count: u32, space: &mut [u8]) -> usize {
     let key = key_in(w, 0, 0);
-    let mut space = new_space();
-    let length = frame(
+    frame(
         &key,
         cred(0, 0, 1, 2, 7),
         req(3, level, 0, count, 0, 0),
         b"",
-        &mut space,
-    );
+        space,
+    )
+}
+
+// A look at object 1 with so many bytes of reply space.
+fn look_within(w: World, label: &[u8], level: u8, count: u32, room: usize) -> World {
+    let mut space = new_space();
+    let length = look_frame(w, level, count, &mut space);
     let n = most(length, &space);
     put_within(w, label, &space[..n], 0, room)
 }
@@ -36,31 +42,29 @@ fn look_within(w: World, label: &[u8], level: u8, count: u32, room: usize) -> Wo
 // Refused for want of space, a frame is not entered.
 fn short_reply() {
     heading(b"a reply space one byte short");
-    let w = stocked();
+    let mut w = stocked();
     show_held(w);
-    let w = look_within(w, b"look, 15 bytes", 0, 10, 15);
+    w = look_within(w, b"look, 15 bytes", 0, 10, 15);
     show_held(w);
-    let w = look_within(w, b"look, 16 bytes", 0, 10, 16);
+    w = look_within(w, b"look, 16 bytes", 0, 10, 16);
     show_held(w);
-    let w = look_within(w, b"look, level 2, 47 bytes", 2, 11, 47);
-    let w = look_within(w, b"look, level 2, 0 bytes", 2, 11, 0);
+    short_signed(w);
+}
+
+// A reply of level 2 is 32 bytes longer.
+fn short_signed(mut w: World) {
+    w = look_within(w, b"look, level 2, 47 bytes", 2, 11, 47);
+    w = look_within(w, b"look, level 2, 0 bytes", 2, 11, 0);
     show_held(w);
-    let w = look_within(w, b"look, level 2, 48 bytes", 2, 11, 48);
-    let w = look_within(w, b"again, 0 bytes", 2, 11, 0);
+    w = look_within(w, b"look, level 2, 48 bytes", 2, 11, 48);
+    w = look_within(w, b"again, 0 bytes", 2, 11, 0);
     show_held(w);
 }
 
 // A look at object 1 over another medium.
 fn look_short(w: World, label: &[u8], clock: u64) -> World {
-    let key = key_in(w, 0, 0);
     let mut space = new_space();
-    let length = frame(
-        &key,
-        cred(0, 0, 1, 2, 7),
-        req(3, 0, 0, 10, 0, 0),
-        b"",
-        &mut space,
-    );
+    let length = look_frame(w, 0, 10, &mut space);
     let n = most(length, &space);
     put_short(w, label, &space[..n], clock)
 }
@@ -68,10 +72,10 @@ fn look_short(w: World, label: &[u8], clock: u64) -> World {
 // Row 1 does not move the mark.
 fn short_medium() {
     heading(b"a medium one byte short");
-    let w = stocked();
-    let w = look_short(w, b"look, clock 9000", 9000);
+    let mut w = stocked();
+    w = look_short(w, b"look, clock 9000", 9000);
     show_mark(w);
-    let w = ask(
+    w = ask(
         w,
         b"look, its own medium, clock 0",
         cred(0, 0, 1, 2, 7),
@@ -82,8 +86,8 @@ fn short_medium() {
 }
 
 // A look at clock 9000, and what the record is after it.
-fn look_at(w: World) {
-    let w = ask(
+fn look_at(mut w: World) {
+    w = ask(
         w,
         b"look",
         cred(0, 0, 1, 2, 7),
@@ -170,11 +174,7 @@ fn unsound_too() {
 }
 
 // A good frame to the drive of a format that was refused; it has no medium.
-fn refused_format(first: u32, master: &[u8], key: &[u8]) {
-    let mut medium = [7u8; 8];
-    let f = drive::format(&mut medium, first, master, key);
-    show(b"format", f.row as u64);
-    let d = f.drive;
+fn set_without(d: Drive) {
     let mut space = new_space();
     let length = frame(
         &[0u8; 32],
@@ -184,9 +184,17 @@ fn refused_format(first: u32, master: &[u8], key: &[u8]) {
         &mut space,
     );
     let n = most(length, &space);
-    let d = put_without(d, b"set drive key", &space[..n], 5000);
-    show(b"mark", d.highwater);
-    show(b"M", d.size as u64);
+    let after = put_without(d, b"set drive key", &space[..n], 5000);
+    show(b"mark", after.highwater);
+    show(b"M", after.size as u64);
+}
+
+fn refused_format(first: u32, master: &[u8], key: &[u8]) {
+    let mut medium = [7u8; 8];
+    let f = drive::format(&mut medium, first, master, key);
+    show(b"format", f.row as u64);
+    let d = f.drive;
+    set_without(d);
 }
 
 // Rows 25 and 26. Row 24's drive is the same; a medium for it has no place here.
@@ -198,7 +206,7 @@ fn refused_formats() {
     refused_format(0, &[0u8; 0], &[1u8; 32]);
 }
 
-pub fn play_records() {
+fn main() {
     short_reply();
     short_medium();
     unsound();
