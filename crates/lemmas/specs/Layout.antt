@@ -76,10 +76,6 @@ paste-all d i s =
     ∙ append-assoc (take i d) s (drop (i + length s) d)
 
 -- ---- fields written one after the other: one more field
-pub encode-none : (vs : List ℕ) → encode [] vs ≡ []
-unfolding encode
-encode-none vs = refl
-
 pub encode-snoc : (ws vs : List ℕ) (w v : ℕ) → length ws ≡ length vs
     → encode (ws ++ (w ∷ [])) (vs ++ (v ∷ [])) ≡ encode ws vs ++ bigEndian w v
 unfolding encode

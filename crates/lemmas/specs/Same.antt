@@ -40,9 +40,6 @@ same-eq (x ∷ xs) (y ∷ ys) e =
     let hs : xs ≡ ys = same-eq xs ys (and-r (eqb x y) (same xs ys) e) in
     cc
 
-pub same-ne : (a b : List ℕ) → same a b ≡ false → (a ≡ b → ⊥)
-same-ne a b e h = false≢true (sym e ∙ ap (same a) (sym h) ∙ same-refl a)
-
 -- lists of different lengths differ
 pub same-lengths : (a b : List ℕ) → (length a ≡ length b → ⊥) → same a b ≡ false
 unfolding same

@@ -13,9 +13,6 @@ ghost use Rattle.record.specs.Text.{TextPut};
 // The bytes before the frame: the two of the mark, eight of the clock, four of the frame's length.
 pub const HEAD_SIZE: usize = 14;
 
-// The most bytes that a frame may have.
-pub const MOST_FRAME: usize = 65536;
-
 const MAGIC: u64 = 0x4c49;
 
 // What is known of a record from those of its bytes that have arrived.
