@@ -1,0 +1,67 @@
+/* Wrong libraries, to see that the targets notice: linked with -Wl,--wrap, each spoils what the proved code gives. BROKEN_build or
+ * BROKEN_check says which; the other call is passed on. */
+#include "sievelast.h"
+
+struct sievelast_built __real_sievelast_build(const uint8_t *, size_t, const uint8_t *, size_t, const uint8_t *, size_t, const uint8_t *,
+                                              size_t, uint8_t *, size_t);
+struct sievelast_checked __real_sievelast_check(const uint8_t *, size_t, const uint8_t *, size_t, const uint8_t *, size_t,
+                                                const uint8_t *, size_t);
+struct sievelast_built __wrap_sievelast_build(const uint8_t *, size_t, const uint8_t *, size_t, const uint8_t *, size_t, const uint8_t *,
+                                              size_t, uint8_t *, size_t);
+struct sievelast_checked __wrap_sievelast_check(const uint8_t *, size_t, const uint8_t *, size_t, const uint8_t *, size_t,
+                                                const uint8_t *, size_t);
+
+/* A byte past or before a space, written where no sanitizer looks. */
+__attribute__((no_sanitize("address", "undefined"), unused)) static void spoil(uint8_t *at) { *(volatile uint8_t *)at = 1; }
+
+struct sievelast_built __wrap_sievelast_build(const uint8_t *c, size_t c_len, const uint8_t *r, size_t r_len, const uint8_t *d,
+                                              size_t d_len, const uint8_t *k, size_t k_len, uint8_t *s, size_t s_len)
+{
+    struct sievelast_built b = __real_sievelast_build(c, c_len, r, r_len, d, d_len, k, k_len, s, s_len);
+#if BROKEN_build == 1 /* one byte past the space */
+    if (b.row == 0)
+        spoil(s + s_len);
+#elif BROKEN_build == 2 /* one byte before it */
+    if (b.row == 0)
+        spoil(s - 1);
+#elif BROKEN_build == 3 /* a refusal writes */
+    if (b.row == 29 && s_len)
+        s[s_len - 1] = 0;
+#elif BROKEN_build == 4 /* a wrong digest */
+    if (b.row == 0)
+        s[b.length - 1] ^= 1;
+#elif BROKEN_build == 5 /* one row for another */
+    if (b.row == 29)
+        b.row = 28;
+#elif BROKEN_build == 6 /* a const argument written */
+    if (b.row == 0)
+        spoil((uint8_t *)(uintptr_t)c);
+#endif
+    return b;
+}
+
+struct sievelast_checked __wrap_sievelast_check(const uint8_t *c, size_t c_len, const uint8_t *r, size_t r_len, const uint8_t *k,
+                                                size_t k_len, const uint8_t *p, size_t p_len)
+{
+    struct sievelast_checked x = __real_sievelast_check(c, c_len, r, r_len, k, k_len, p, p_len);
+#if BROKEN_check == 1 /* one byte too many */
+    if (x.row == 0)
+        x.length++;
+#elif BROKEN_check == 2 /* a refusal that names a part */
+    if (x.row == 30)
+        x.start = 8;
+#elif BROKEN_check == 3 /* a wrong reply believed */
+    if (x.row == 30)
+        x.row = 0;
+#elif BROKEN_check == 4 /* a right one not */
+    if (x.row == 0 && x.length)
+        x.row = 30, x.start = x.length = 0;
+#elif BROKEN_check == 5 /* one row for another */
+    if (x.row == 26)
+        x.row = 28;
+#elif BROKEN_check == 6 /* a const argument written */
+    if (x.row == 0)
+        spoil((uint8_t *)(uintptr_t)p);
+#endif
+    return x;
+}
