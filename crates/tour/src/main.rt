@@ -80,16 +80,18 @@ fn send(
     medium: &mut [u8],
     what: &[u8],
     key: &[u8],
-    fields: Credential,
+    slot: u8,
+    object: u32,
+    version: u32,
     request: [u8; 28],
     payload: &[u8],
 ) -> Drive {
     let mut credential = [0u8; 36];
     let mut frame = [0u8; 160];
     let mut reply = [0u8; 160];
+    // The README shows the ten lines from here on.
     let mut row: u32 = 0;
-    // The README shows the lines from here to the end.
-    let issued = client::issue(fields, key, &mut credential);
+    let issued = client::issue(every_right(slot, object, version), key, &mut credential);
     let secret = issued.key;
     let built = client::build(&credential, &request, payload, &secret, &mut frame);
     let n = most(built.length, &frame);
@@ -110,7 +112,9 @@ fn make_ready(medium: &mut [u8], top: &[u8], upper: &[u8]) -> Drive {
         medium,
         b"set the key of partition 0",
         top,
-        every_right(3, 0, 0),
+        3,
+        0,
+        0,
         key_request(1),
         b"partition 0 seed",
     );
@@ -119,7 +123,9 @@ fn make_ready(medium: &mut [u8], top: &[u8], upper: &[u8]) -> Drive {
         medium,
         b"set its working key 0",
         upper,
-        every_right(2, 0, 0),
+        2,
+        0,
+        0,
         key_request(2),
         b"working key seed",
     )
@@ -132,7 +138,9 @@ fn write_shape(store: Drive, medium: &mut [u8], key: &[u8]) -> Drive {
         medium,
         b"create object 1 of 20 bytes",
         key,
-        every_right(0, 0, 1),
+        0,
+        0,
+        1,
         request_of(5, 3, 1, 20, 0),
         b"",
     );
@@ -141,7 +149,9 @@ fn write_shape(store: Drive, medium: &mut [u8], key: &[u8]) -> Drive {
         medium,
         b"write a shape into it",
         key,
-        every_right(0, 1, 2),
+        0,
+        1,
+        2,
         request_of(2, 4, 0, 20, 20),
         b"log 4711, 312 mm top",
     )
@@ -154,7 +164,9 @@ fn read_shape(store: Drive, medium: &mut [u8], key: &[u8]) {
         medium,
         b"read it back",
         key,
-        every_right(0, 1, 2),
+        0,
+        1,
+        2,
         request_of(1, 5, 0, 20, 0),
         b"",
     );
@@ -163,7 +175,9 @@ fn read_shape(store: Drive, medium: &mut [u8], key: &[u8]) {
         medium,
         b"the same frame again",
         key,
-        every_right(0, 1, 2),
+        0,
+        1,
+        2,
         request_of(1, 5, 0, 20, 0),
         b"",
     );

@@ -5,14 +5,14 @@ use Rattle.tour.proofs.make_ready.Tie as tie
 
 same-length : tie.Need-same-length
 same-length c =
-    let first = c .before .before .before .before .before .before .before .before .before .before in
-    let made = first .before .before .before .before .before .before .before .before .before in
+    let first = c .before .before .before .before .before .before .before .before .before in
+    let made = first .before .before .before .before .before .before .before .before in
     search (needs, c .before .before .send2 .kept, first .send .kept, made .format .kept)
 
 pub make-ready-spec : {M : Type 1} → statement M
 make-ready-spec =
     tie.close
     (tie.spec
-    (λ c. search needs) (λ c κs. search needs) (λ c κs. search needs) (λ c. search needs) (λ c κs. search needs) (λ c κs. search needs)
-    (λ c. search needs) (λ c κs. search needs) (λ c. search needs) (λ c κs. search needs) (λ c κs. search needs) (λ c. search needs)
+    (λ c. search needs) (λ c κs. search needs) (λ c κs. search needs) (λ c. search needs) (λ c κs. search needs)
+    (λ c. search needs) (λ c κs. search needs) (λ c. search needs) (λ c κs. search needs) (λ c. search needs)
     (λ c κs. search needs) same-length (λ c. search needs))
