@@ -1,17 +1,18 @@
 -- A frame that none of rows 2 to 7 refuses: its length, its partition, and its parts as slices of it.
 use mathlib.Core.Path.{_≡_, refl, sym, ap, _∙_}
-use mathlib.Core.Bool.{Bool, true, false, cond}
+use mathlib.Core.Bool.{true, false}
 use mathlib.Core.List.{List, _++_}
 use Prim.Native.Nat.{ℕ, _+_, _-_, _<_}
 use native.Mathlib.Omega.{arith}
 use lib.ListN.{length, take, drop}
 use lib.Seq.{take-add, drop-drop}
-use borrow.Author.Tests.{eqb-true, ltb-false, not-false}
-use Rattle.lemmas.specs.Tests.{_is_, _under_, none-of, or-l, or-r}
+use borrow.Author.Tests.{eqb-true, not-false}
+use Rattle.lemmas.specs.Tests.{_is_, or-r}
 use Rattle.lemmas.specs.Lists.{every, part}
 use Rattle.lemmas.specs.Rows.{applies, none-applies}
 use Rattle.rules.specs.Frame.{fields, memory}
-use Rattle.rules.specs.Rows.{row4, row5, credentialFaults, outsideCredential, outsideRequest, wrongData, frameRows}
+use Rattle.rules.specs.Rows.{row4, row5, frameRows}
+use Rattle.rules.proofs.Clear.{low-partition, low-memory}
 use Rattle.wire.specs.Parse.{frameRow}
 
 module _ (f : List ℕ) (z : frameRow f ≡ 0) where
@@ -33,20 +34,10 @@ module _ (f : List ℕ) (z : frameRow f ≡ 0) where
       (not-false (length f is 96 + fields f .req .n) (search (or-r, clear5)))
 
   pub in-four : fields f .cred .partition < 4
-  in-four = omega (
-    arith,
-    ltb-false 3 (fields f .cred .partition)
-        (none-of (credentialFaults (fields f .cred))
-        (or-l (outsideCredential (fields f .cred)) (outsideRequest (fields f .req)) clear4) 0),
-  )
+  in-four = low-partition (fields f) clear4
 
   pub in-five : memory (fields f) < 5
-  unfolding memory
-  in-five = go (fields f .cred .slot under 3)
-    where
-      go : (b : Bool) → cond b (fields f .cred .partition) 4 < 5
-      go true = omega (arith, in-four)
-      go false = omega arith
+  in-five = low-memory (fields f) clear4
 
 -- ---- the parts
 pub the-credential : (f : List ℕ) → take 36 f ≡ fields f .credential

@@ -18,6 +18,7 @@ use Rattle.rules.specs.Drive.{Drive, partitionAt, quarter, refresh, soun
 use Rattle.rules.specs.Frame.{
   create,
   delete,
+  Fields,
   fields,
   look,
   memory,
@@ -65,6 +66,23 @@ use Rattle.rules.specs.Rows.{
 use Rattle.rules.proofs.Holds.{CanWrite, Grant}
 use Rattle.rules.proofs.Placing.{placed}
 use Rattle.rules.proofs.Sound.{at-sound, CanCreate, object-is, partition-is, SoundPartition, SoundTables}
+
+-- ---- a frame that row 4 does not refuse: its partition is one of the four, its memory one of the five
+module _ (x : Fields) (clear4 : row4 (x .cred) (x .req) ≡ false) where
+  pub low-partition : x .cred .partition < 4
+  low-partition = omega (
+    arith,
+    ltb-false 3 (x .cred .partition)
+        (none-of (credentialFaults (x .cred)) (or-l (outsideCredential (x .cred)) (outsideRequest (x .req)) clear4) 0),
+  )
+
+  pub low-memory : memory x < 5
+  unfolding memory
+  low-memory = go (x .cred .slot under 3)
+    where
+      go : (b : Bool) → cond b (x .cred .partition) 4 < 5
+      go true = omega (arith, low-partition)
+      go false = omega arith
 
 -- ---- the number of an operation
 abbrev pub code : Operation → ℕ
@@ -204,14 +222,11 @@ module _ (d : Drive) (m f : List ℕ) (clock : ℕ) (space : List ℕ) (g : firs
       let h17 : row17 (e .tables) (fields f) ≡ false = clear 17 in
       rw (h8, h9, h10, h13, h14, h15, h16, h17) refl
 
-  -- the partition is one of the four, and the memory one of the five
   pub in-four : fields f .cred .partition < 4
-  in-four = omega (
-    arith,
-    ltb-false 3 (fields f .cred .partition)
-        (none-of (credentialFaults (fields f .cred))
-        (or-l (outsideCredential (fields f .cred)) (outsideRequest (fields f .req)) clear4) 0),
-  )
+  in-four = low-partition (fields f) clear4
+
+  pub in-five : memory (fields f) < 5
+  in-five = low-memory (fields f) clear4
 
   pub is-known : known (operationOf (fields f)) ≡ true
   is-known =
@@ -220,14 +235,6 @@ module _ (d : Drive) (m f : List ℕ) (clock : ℕ) (space : List ℕ) (g : firs
       known-of (fields f .req .operation)
       (ltb-false (fields f .req .operation) 1 (none-of (requestFaults (fields f .req)) h 0))
       (ltb-false 7 (fields f .req .operation) (none-of (requestFaults (fields f .req)) h 1))
-
-  pub in-five : memory (fields f) < 5
-  unfolding memory
-  in-five = go (fields f .cred .slot under 3)
-    where
-      go : (b : Bool) → cond b (fields f .cred .partition) 4 < 5
-      go true = omega (arith, in-four)
-      go false = omega arith
 
   -- the operation is k
   abbrev Is : ℕ → Type 0
