@@ -1,10 +1,14 @@
-/* SHA-256 and HMAC of the crate `digest` against OpenSSL's libcrypto: first every answer is compared, then the speed
- * is measured. The script `run` beside this file builds and runs it; it needs libssl-dev from Debian's packages:
- *
- *     apt-get install -y libssl-dev
- *     bench/digest/run
- *
- * The exit status is 1 if one answer differs. */
+/* SHA-256 and HMAC of the crate `digest` against other libraries: with no word it compares every answer with libcrypto's, and
+ * some with every library's; the exit status is 1 if one differs. With words, each a library's name, it measures these and
+ * ours by turns, and prints a line for each digest, length and library: our MB/s, theirs, and the median and the quartiles
+ * of the ratio of the two in a turn. The script `run` beside this file builds and runs it. */
+#define OPENSSL_SUPPRESS_DEPRECATED
+#include <bearssl.h>
+#include <mbedtls/md.h>
+#include <mbedtls/sha256.h>
+#include <nettle/hmac.h>
+#include <nettle/sha2.h>
+#include <sodium.h>
 #include <stdint.h>
 #include <stdio.h>
 #include <stdlib.h>
@@ -21,10 +25,132 @@ uint32_t digest_hmac(const uint8_t *key, size_t key_length, const uint8_t *messa
 void digest_hmac3(const uint8_t *key, size_t key_length, const uint8_t *a, size_t a_length, const uint8_t *b,
                   size_t b_length, const uint8_t *c, size_t c_length, uint8_t *out, size_t out_length);
 
-enum { DIGEST = 32, MOST = 1 << 24, LONGEST = 700, KEYS = 200, CUTS = 20, REPEATS = 201 };
+enum { DIGEST = 32, MOST = 1 << 24, LONGEST = 700, KEYS = 200, CUTS = 20, TURNS = 101, KEY = 32 };
 
 static uint8_t *bytes; /* MOST + 1 bytes, made up once */
 static int differences;
+
+/* ---- the libraries, each by the calls that cost least. A key has 32 bytes. */
+
+static void ours_sha256(const uint8_t *m, size_t n, uint8_t *out)
+{
+    digest_sha256(m, n, out, DIGEST);
+}
+
+static void ours_hmac(const uint8_t *key, const uint8_t *m, size_t n, uint8_t *out)
+{
+    digest_hmac(key, KEY, m, n, out, DIGEST);
+}
+
+static void crypto_sha256(const uint8_t *m, size_t n, uint8_t *out)
+{
+    SHA256_CTX c;
+    SHA256_Init(&c);
+    SHA256_Update(&c, m, n);
+    SHA256_Final(out, &c);
+}
+
+/* RFC 2104 over libcrypto's plain SHA-256 calls; its HMAC calls look the digest up by name each time. */
+static void crypto_hmac(const uint8_t *key, const uint8_t *m, size_t n, uint8_t *out)
+{
+    uint8_t pad[SHA256_CBLOCK], inner[DIGEST];
+    SHA256_CTX c;
+    memset(pad, 0x36, sizeof pad);
+    for (int i = 0; i < KEY; i++)
+        pad[i] ^= key[i];
+    SHA256_Init(&c);
+    SHA256_Update(&c, pad, sizeof pad);
+    SHA256_Update(&c, m, n);
+    SHA256_Final(inner, &c);
+    for (size_t i = 0; i < sizeof pad; i++)
+        pad[i] ^= 0x36 ^ 0x5c;
+    SHA256_Init(&c);
+    SHA256_Update(&c, pad, sizeof pad);
+    SHA256_Update(&c, inner, DIGEST);
+    SHA256_Final(out, &c);
+}
+
+static void crypto_sha256_call(const uint8_t *m, size_t n, uint8_t *out)
+{
+    SHA256(m, n, out);
+}
+
+static void crypto_hmac_call(const uint8_t *key, const uint8_t *m, size_t n, uint8_t *out)
+{
+    HMAC(EVP_sha256(), key, KEY, m, n, out, NULL);
+}
+
+static void sodium_sha256(const uint8_t *m, size_t n, uint8_t *out)
+{
+    crypto_hash_sha256(out, m, n);
+}
+
+static void sodium_hmac(const uint8_t *key, const uint8_t *m, size_t n, uint8_t *out)
+{
+    crypto_auth_hmacsha256(out, m, n, key);
+}
+
+static void bear_sha256(const uint8_t *m, size_t n, uint8_t *out)
+{
+    br_sha256_context c;
+    br_sha256_init(&c);
+    br_sha256_update(&c, m, n);
+    br_sha256_out(&c, out);
+}
+
+static void bear_hmac(const uint8_t *key, const uint8_t *m, size_t n, uint8_t *out)
+{
+    br_hmac_key_context k;
+    br_hmac_context c;
+    br_hmac_key_init(&k, &br_sha256_vtable, key, KEY);
+    br_hmac_init(&c, &k, 0);
+    br_hmac_update(&c, m, n);
+    br_hmac_out(&c, out);
+}
+
+static void from_nettle_sha256(const uint8_t *m, size_t n, uint8_t *out)
+{
+    struct sha256_ctx c;
+    sha256_init(&c);
+    sha256_update(&c, n, m);
+    sha256_digest(&c, DIGEST, out);
+}
+
+static void from_nettle_hmac(const uint8_t *key, const uint8_t *m, size_t n, uint8_t *out)
+{
+    struct hmac_sha256_ctx c;
+    hmac_sha256_set_key(&c, KEY, key);
+    hmac_sha256_update(&c, n, m);
+    hmac_sha256_digest(&c, DIGEST, out);
+}
+
+static void mbed_sha256(const uint8_t *m, size_t n, uint8_t *out)
+{
+    mbedtls_sha256_ret(m, n, out, 0);
+}
+
+static void mbed_hmac(const uint8_t *key, const uint8_t *m, size_t n, uint8_t *out)
+{
+    mbedtls_md_hmac(mbedtls_md_info_from_type(MBEDTLS_MD_SHA256), key, KEY, m, n, out);
+}
+
+struct library {
+    const char *name;
+    void (*sha256)(const uint8_t *m, size_t n, uint8_t *out);
+    void (*hmac)(const uint8_t *key, const uint8_t *m, size_t n, uint8_t *out);
+};
+
+static const struct library libraries[] = {
+    {"ours", ours_sha256, ours_hmac},
+    {"libcrypto", crypto_sha256, crypto_hmac},
+    {"libcrypto-call", crypto_sha256_call, crypto_hmac_call},
+    {"libsodium", sodium_sha256, sodium_hmac},
+    {"BearSSL", bear_sha256, bear_hmac},
+    {"nettle", from_nettle_sha256, from_nettle_hmac},
+    {"mbedTLS", mbed_sha256, mbed_hmac},
+};
+
+enum { LIBRARIES = sizeof libraries / sizeof libraries[0] };
 
 /* ---- the comparison */
 
@@ -96,6 +222,20 @@ static void compare_too_long(void)
     expect(row == 27 && !memcmp(ours, zeros, DIGEST), "hmac, row 27", MOST + 1, 32);
 }
 
+/* Every library against libcrypto, so that what is measured is the same. */
+static void compare_libraries(size_t n)
+{
+    uint8_t a[DIGEST], b[DIGEST];
+    for (int i = 0; i < LIBRARIES; i++) {
+        libraries[i].sha256(bytes + 1, n, a);
+        crypto_sha256(bytes + 1, n, b);
+        expect(!memcmp(a, b, DIGEST), libraries[i].name, n, 0);
+        libraries[i].hmac(bytes, bytes + 1, n, a);
+        their_hmac(bytes, KEY, bytes + 1, n, b);
+        expect(!memcmp(a, b, DIGEST), libraries[i].name, n, KEY);
+    }
+}
+
 static void compare(void)
 {
     for (size_t n = 0; n <= LONGEST; n++) {
@@ -103,6 +243,7 @@ static void compare(void)
         compare_sha256(m, n);
         for (size_t k = 0; k < KEYS; k++)
             compare_hmac(bytes + 3, k, m, n);
+        compare_libraries(n);
         for (int t = 0; t < CUTS; t++)
             compare_hmac3(bytes, (size_t)rand() % KEYS, m, n);
     }
@@ -118,29 +259,9 @@ static void compare(void)
 
 /* ---- the speed */
 
-enum call { OUR_SHA256, THEIR_SHA256, OUR_HMAC, THEIR_HMAC };
+enum { MOST_MEASURED = LIBRARIES, LEAST_WORK = 1 << 20 };
 
 static volatile uint8_t sink;
-
-static void once(enum call which, size_t n)
-{
-    uint8_t out[DIGEST];
-    switch (which) {
-    case OUR_SHA256:
-        digest_sha256(bytes, n, out, DIGEST);
-        break;
-    case THEIR_SHA256:
-        SHA256(bytes, n, out);
-        break;
-    case OUR_HMAC:
-        digest_hmac(bytes, 32, bytes, n, out, DIGEST);
-        break;
-    case THEIR_HMAC:
-        their_hmac(bytes, 32, bytes, n, out);
-        break;
-    }
-    sink = out[0];
-}
 
 static double seconds(void)
 {
@@ -149,11 +270,18 @@ static double seconds(void)
     return (double)t.tv_sec + 1e-9 * (double)t.tv_nsec;
 }
 
-static double timed(enum call which, size_t n, int calls)
+static double timed(const struct library *l, int keyed, size_t n)
 {
+    int calls = (int)(LEAST_WORK / (n + 128)) + 1;
+    uint8_t out[DIGEST];
     double start = seconds();
-    for (int i = 0; i < calls; i++)
-        once(which, n);
+    for (int i = 0; i < calls; i++) {
+        if (keyed)
+            l->hmac(bytes, bytes + 64, n, out);
+        else
+            l->sha256(bytes + 64, n, out);
+        sink = out[0];
+    }
     return (seconds() - start) / calls;
 }
 
@@ -163,33 +291,54 @@ static int ascending(const void *a, const void *b)
     return (x > y) - (x < y);
 }
 
-/* The two sides by turns, so that both meet the same machine. MB/s by the best of each, and their ratio; then the
- * ratio of the medians. */
-static void measure(const char *name, enum call ours, enum call theirs, size_t n)
+static double sorted(double *a)
 {
-    static double a[REPEATS], b[REPEATS];
-    int calls = (int)((1 << 20) / (n + 128)) + 1;
-    for (int r = 0; r < REPEATS; r++) {
-        a[r] = timed(ours, n, calls);
-        b[r] = timed(theirs, n, calls);
-    }
-    qsort(a, REPEATS, sizeof a[0], ascending);
-    qsort(b, REPEATS, sizeof b[0], ascending);
-    printf("%-8s %9zu %12.1f %12.1f %8.2f %8.2f\n", name, n, (double)n / a[0] / 1e6, (double)n / b[0] / 1e6,
-           b[0] / a[0], b[REPEATS / 2] / a[REPEATS / 2]);
+    qsort(a, TURNS, sizeof a[0], ascending);
+    return a[TURNS / 2];
 }
 
-int main(void)
+/* Ours and the chosen ones by turns, so that all meet the same machine. */
+static void measure(const struct library **chosen, int count, int keyed, size_t n)
+{
+    static double time[MOST_MEASURED][TURNS], ratio[TURNS], ours[TURNS];
+    for (int t = 0; t < TURNS; t++)
+        for (int i = 0; i < count; i++)
+            time[i][t] = timed(chosen[i], keyed, n);
+    for (int i = 1; i < count; i++) {
+        for (int t = 0; t < TURNS; t++)
+            ratio[t] = time[i][t] / time[0][t];
+        memcpy(ours, time[0], sizeof ours);
+        double middle = sorted(ratio);
+        printf("%s %zu %s %.1f %.1f %.3f %.3f %.3f\n", keyed ? "hmac" : "sha256", n, chosen[i]->name,
+               (double)n / sorted(ours) / 1e6, (double)n / sorted(time[i]) / 1e6, middle, ratio[TURNS / 4],
+               ratio[TURNS - 1 - TURNS / 4]);
+    }
+}
+
+static const struct library *named(const char *name)
+{
+    for (int i = 0; i < LIBRARIES; i++)
+        if (!strcmp(libraries[i].name, name))
+            return &libraries[i];
+    fprintf(stderr, "no library %s\n", name);
+    exit(2);
+}
+
+int main(int count, char **words)
 {
     static const size_t lengths[] = {64, 1024, 65536, 1 << 20};
+    const struct library *chosen[MOST_MEASURED] = {&libraries[0]};
     make_bytes();
-    compare();
-    if (differences)
-        return 1;
-    printf("%-8s %9s %12s %12s %8s %8s\n", "", "bytes", "ours MB/s", "libcrypto", "ratio", "median");
-    for (size_t i = 0; i < sizeof lengths / sizeof lengths[0]; i++)
-        measure("sha256", OUR_SHA256, THEIR_SHA256, lengths[i]);
-    for (size_t i = 0; i < sizeof lengths / sizeof lengths[0]; i++)
-        measure("hmac", OUR_HMAC, THEIR_HMAC, lengths[i]);
+    if (count == 1) {
+        compare();
+        return differences != 0;
+    }
+    if (count > MOST_MEASURED)
+        return 2;
+    for (int i = 1; i < count; i++)
+        chosen[i] = named(words[i]);
+    for (int keyed = 0; keyed < 2; keyed++)
+        for (size_t i = 0; i < sizeof lengths / sizeof lengths[0]; i++)
+            measure(chosen, count, keyed, lengths[i]);
     return 0;
 }
