@@ -42,6 +42,7 @@ def main():
         rows = []
         for column in COLUMNS:
             rows.append([column] + [tables.shown(*found[digest, size, column][2:]) for size in sizes])
+        tables.keep(digest, {c: [found[digest, s, c] for s in sizes] for c in COLUMNS})
         title = {"sha256": "SHA-256", "hmac": "HMAC-SHA-256, key of 32 bytes"}[digest]
         tables.table(f"{title}: our speed divided by theirs", ["bytes"] + [f"{size:,}" for size in sizes], rows)
         rows = []

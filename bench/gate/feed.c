@@ -1,0 +1,151 @@
+/* The other sides of bench/gate's ratios. Reads the records of standard input as gate_bench does, block by block, with a medium
+ * of the same size set to zero first, and does with each frame what the word says:
+ *
+ *     read         nothing more
+ *     ours N       the digests that the gate has to compute, by the crate `digest`, N times over
+ *     libcrypto N  the same, by libcrypto
+ *     copy N       of a read the bytes it asks for, copied N times from the medium to the reply; of a write its data, to the
+ *                  medium
+ *
+ * The digests of a frame: the credential under its slot's key, what the frame's digest covers under the credential key, and at
+ * level 2 as many bytes as the reply's digest covers. Operation 7 sets keys here too. It prints how many frames had the digest
+ * that was computed. */
+#define OPENSSL_SUPPRESS_DEPRECATED
+#include "records.h"
+#include <openssl/sha.h>
+#include <unistd.h>
+
+uint32_t digest_hmac(const uint8_t *key, size_t key_length, const uint8_t *message, size_t message_length,
+                     uint8_t *out, size_t out_length);
+void digest_hmac3(const uint8_t *key, size_t key_length, const uint8_t *a, size_t a_length, const uint8_t *b,
+                  size_t b_length, const uint8_t *c, size_t c_length, uint8_t *out, size_t out_length);
+
+typedef void hmac_call(const uint8_t *key, const uint8_t *a, size_t a_length, const uint8_t *b, size_t b_length,
+                       uint8_t *out);
+
+static uint8_t block[BLOCK + CREDENTIAL + REQUEST + DIGEST], reply[8 + MOST_DATA + DIGEST], *medium;
+static uint8_t keys[5][4][DIGEST];      /* by slot and partition */
+static uint64_t calls, same;
+static hmac_call *hmac;                 /* of two parts, one after the other; NULL where none is asked for */
+static long times;                      /* that each work is done */
+
+static void our_hmac(const uint8_t *key, const uint8_t *a, size_t a_length, const uint8_t *b, size_t b_length, uint8_t *out)
+{
+    if (b_length)
+        digest_hmac3(key, DIGEST, a, a_length, b, b_length, b, 0, out, DIGEST);
+    else
+        digest_hmac(key, DIGEST, a, a_length, out, DIGEST);
+}
+
+/* Over libcrypto's plain SHA-256 calls: its HMAC calls look the digest up by name each time, which for a short message takes
+ * longer than the digest. */
+static void their_hmac(const uint8_t *key, const uint8_t *a, size_t a_length, const uint8_t *b, size_t b_length,
+                       uint8_t *out)
+{
+    uint8_t pad[SHA256_CBLOCK], inner[DIGEST];
+    SHA256_CTX c;
+    memset(pad, 0x36, sizeof pad);
+    for (int i = 0; i < DIGEST; i++)
+        pad[i] ^= key[i];
+    SHA256_Init(&c);
+    SHA256_Update(&c, pad, sizeof pad);
+    SHA256_Update(&c, a, a_length);
+    SHA256_Update(&c, b, b_length);
+    SHA256_Final(inner, &c);
+    for (size_t i = 0; i < sizeof pad; i++)
+        pad[i] ^= 0x36 ^ 0x5c;
+    SHA256_Init(&c);
+    SHA256_Update(&c, pad, sizeof pad);
+    SHA256_Update(&c, inner, DIGEST);
+    SHA256_Final(out, &c);
+}
+
+/* Where operation 7 puts a new key: slot 4 the drive key, slot 3 partition A's, slot 2 working key A. */
+static void set_key(const uint8_t *credential, const uint8_t *request, const uint8_t *key)
+{
+    static const int below[] = {0, 0, 0, 2, 3};
+    int slot = credential[3] % 5, partition = credential[2] % 4;
+    uint32_t a = (uint32_t)number(request + 16, 4) % 4;
+    uint8_t made[DIGEST];
+    hmac(key, request, REQUEST + 16, NULL, 0, made);
+    memcpy(slot == 2 ? keys[a % 2][partition] : slot == 3 ? keys[2][a] : keys[below[slot]][0], made, DIGEST);
+}
+
+static size_t result_length(const uint8_t *request)
+{
+    static const size_t fixed[] = {0, 0, 0, 8, 4, 4, 0, 0};
+    int operation = request[2] % 8;
+    size_t b = (size_t)number(request + 20, 4);
+    return operation == 1 ? b < MOST_DATA ? b : 0 : fixed[operation];
+}
+
+static void put_digests(const uint8_t *frame, size_t n)
+{
+    const uint8_t *request = frame + CREDENTIAL, *end = frame + n - DIGEST;
+    const uint8_t *key = keys[frame[3] % 5][frame[2] % 4];
+    uint8_t credential_key[DIGEST], digest[DIGEST];
+    int level = request[3] % 4;
+    hmac(key, frame, CREDENTIAL, NULL, 0, credential_key);
+    hmac(credential_key, frame, level ? (size_t)(end - frame) : CREDENTIAL + REQUEST, NULL, 0, digest);
+    same += !memcmp(digest, end, DIGEST);
+    if (request[2] == 7)
+        set_key(frame, request, key);
+    if (level == 2)
+        hmac(credential_key, frame, CREDENTIAL + REQUEST, reply, 8 + result_length(request), digest);
+}
+
+static void copy(const uint8_t *request, size_t n)
+{
+    size_t a = (size_t)number(request + 16, 4) % MOST_DATA;
+    if (request[2] == 2)
+        memcpy(medium + a, request + REQUEST, n - CREDENTIAL - REQUEST - DIGEST);
+    else
+        memcpy(reply + 8, medium + a, result_length(request));
+    __asm__ volatile("" : : : "memory");
+}
+
+static void serve(const uint8_t *frame, size_t n)
+{
+    calls++;
+    if (n < CREDENTIAL + REQUEST + DIGEST)
+        n = CREDENTIAL + REQUEST + DIGEST;
+    for (long i = 0; i < times; i++)
+        if (hmac)
+            put_digests(frame, n);
+        else
+            copy(frame + CREDENTIAL, n);
+}
+
+static size_t read_block(void)
+{
+    size_t done = 0;
+    while (done < BLOCK) {
+        ssize_t got = read(0, block + done, BLOCK - done);
+        if (got <= 0)
+            break;
+        done += (size_t)got;
+    }
+    return done;
+}
+
+int main(int count, char **words)
+{
+    const char *word = count > 1 ? words[1] : "read";
+    hmac = !strcmp(word, "ours") ? our_hmac : !strcmp(word, "libcrypto") ? their_hmac : NULL;
+    times = count > 2 ? atol(words[2]) : 0;
+    medium = malloc(MEDIUM);
+    if (!medium)
+        fail("no memory");
+    memset(medium, 0, MEDIUM);
+    memset(keys[3], 1, sizeof keys[3]);
+    for (size_t n = read_block(); n; n = read_block())
+        for (size_t at = 0; at + HEAD <= n && number(block + at, 2) == 0x4c49;) {
+            size_t size = (size_t)number(block + at + 10, 4);
+            if (size > n - at - HEAD)
+                break;
+            serve(block + at + HEAD, size);
+            at += HEAD + size;
+        }
+    printf("%llu frames, %llu digests\n", (unsigned long long)calls, (unsigned long long)same);
+    return 0;
+}

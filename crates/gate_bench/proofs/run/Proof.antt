@@ -1,0 +1,26 @@
+-- A block less is left after each turn.
+use mathlib.Core.Path.{_≡_, refl, sym, _∙_}
+use Prim.Native.Nat.{_≤_, _<_}
+use native.Mathlib.Omega.{arith}
+use lib.ListN.{length}
+use lib.Seq.{length-take-le}
+use borrow.Author.Needs.{needs}
+use Rattle.gate_bench.proofs.run.Statement.{statement}
+use Rattle.gate_bench.proofs.run.Tie as tie
+
+abbrev Inv-loop : tie.InvT-loop
+Inv-loop medium₀ input₀ reply₀ t₀ left₀ medium input reply t left =
+    (length medium ≡ length medium₀) × (length input ≡ length input₀) × (length reply ≡ length reply₀)
+
+abbrev μ-loop : tie.MeasureT-loop
+μ-loop medium₀ input₀ reply₀ t₀ left₀ medium input reply t left = left
+
+pub run-spec : {M : Type 1} → statement M
+run-spec =
+    tie.close
+    (tie.spec
+    Inv-loop μ-loop (λ c. (refl, refl, refl)) (λ c. search needs) (λ c κs. tt) (λ c. search needs) (λ c. search needs)
+    (λ c κs. tt) (λ c. omega (arith, c .before .before .before .before .before .before .before .before .before .before .before .before .before .loop-test .taken))
+    (λ c. (search needs, search needs, search needs)) (λ c. search needs)
+    (λ c. search needs) (λ c. search needs) (λ c. search needs) (λ c. search needs) (λ c. search needs)
+    (λ c. search needs) (λ c. search needs))
