@@ -1,0 +1,76 @@
+#!/usr/bin/env python3
+"""The program `gate`, fed through a pipe by a process on another core, against gate_bench on the same records in a file, and
+against a C program (bench/gate/feed.c) that reads them from such a pipe too and computes the same digests by libcrypto."""
+
+import os
+import subprocess
+import sys
+import time
+
+sys.path.insert(0, os.path.dirname(os.path.dirname(os.path.abspath(__file__))))
+import tables  # noqa: E402
+from processes import *  # noqa: E402, F403
+
+OBJECT = 8192
+CASES = [
+    ("look, level 0, empty", ("look", 0, 0, "empty"), 300_000),
+    ("look, level 0, full", ("look", 0, 0, "full"), 200_000),
+    ("look, level 2, empty", ("look", 0, 2, "empty"), 200_000),
+    ("read of 4,096, level 2, empty", ("read", 4096, 2, "empty"), 30_000),
+    ("write of 512, level 1, empty", ("write", 512, 1, "empty"), 150_000),
+    ("write of 4,096, level 1, empty", ("write", 4096, 1, "empty"), 30_000),
+    ("refused by row 3, empty", ("3", 0, 0, "empty"), 600_000),
+]
+
+
+def elsewhere():
+    """Leaves the core on which the measured process runs, where there is another."""
+    here = os.sched_getaffinity(0)
+    others = set(range(os.cpu_count())) - here
+    if others:
+        os.sched_setaffinity(0, others)
+
+
+def piped(words):
+    """Processor time of a process that reads the input from a pipe, and the time by the clock."""
+    start = time.perf_counter()
+    source = subprocess.Popen(["cat", INPUT], stdout=subprocess.PIPE, preexec_fn=elsewhere)
+    reader = subprocess.Popen(words, stdin=source.stdout, stdout=subprocess.DEVNULL)
+    source.stdout.close()
+    used = ended(reader)
+    clock = time.perf_counter() - start
+    ended(source)
+    return used, clock
+
+
+def from_file(words):
+    start = time.perf_counter()
+    used = spent(words, INPUT)
+    return used, time.perf_counter() - start
+
+
+def cells(case, frames):
+    calls = make(INPUT, *case, frames, OBJECT)
+    sides = {"gate": [], "library": [], "libcrypto": []}
+    for _ in range(TURNS):
+        sides["gate"].append(piped(GATE))
+        sides["library"].append(from_file(GATE_BENCH))
+        sides["libcrypto"].append(piped(feed("libcrypto")))
+    found = [tables.quartiles([calls / clock for _, clock in sides["gate"]])]
+    for name in ["library", "libcrypto"]:
+        for i in [0, 1]:
+            found.append(tables.quartiles([t[i] / g[i] for t, g in zip(sides[name], sides["gate"])]))
+    tables.keep(f"program {case}", found)
+    return [tables.shown(*f) for f in found]
+
+
+def main():
+    rows = [[name] + cells(case, frames) for name, case, frames in CASES]
+    tables.table("The program through a pipe: records a second, and its speed divided by the other's", [
+        "", "records a second", "library, by processor time", "by the clock", "libcrypto, by processor time", "by the clock"
+    ], rows)
+    remove(INPUT)
+
+
+if __name__ == "__main__":
+    main()
