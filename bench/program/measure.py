@@ -49,7 +49,7 @@ def from_file(words):
     return used, time.perf_counter() - start
 
 
-def cells(case, frames):
+def cells(name, case, frames):
     calls = make(INPUT, *case, frames, OBJECT)
     sides = {"gate": [], "library": [], "libcrypto": []}
     for _ in range(TURNS):
@@ -57,15 +57,15 @@ def cells(case, frames):
         sides["library"].append(from_file(GATE_BENCH))
         sides["libcrypto"].append(piped(feed("libcrypto")))
     found = [tables.quartiles([calls / clock for _, clock in sides["gate"]])]
-    for name in ["library", "libcrypto"]:
+    for side in ["library", "libcrypto"]:
         for i in [0, 1]:
-            found.append(tables.quartiles([t[i] / g[i] for t, g in zip(sides[name], sides["gate"])]))
-    tables.keep(f"program {case}", found)
+            found.append(tables.quartiles([t[i] / g[i] for t, g in zip(sides[side], sides["gate"])]))
+    tables.keep(f"program {name}", found)
     return [tables.shown(*f) for f in found]
 
 
 def main():
-    rows = [[name] + cells(case, frames) for name, case, frames in CASES]
+    rows = [[name] + cells(name, case, frames) for name, case, frames in CASES]
     tables.table("The program through a pipe: records a second, and its speed divided by the other's", [
         "", "records a second", "library, by processor time", "by the clock", "libcrypto, by processor time", "by the clock"
     ], rows)
