@@ -17,6 +17,7 @@
 #include <openssl/evp.h>
 #include <openssl/hmac.h>
 #include <openssl/sha.h>
+#include "../libcrypto_hmac.h"
 
 /* What libdigest_c.a exports: a lent slice is a pointer and a length. */
 uint32_t digest_sha256(const uint8_t *message, size_t message_length, uint8_t *out, size_t out_length);
@@ -50,24 +51,9 @@ static void crypto_sha256(const uint8_t *m, size_t n, uint8_t *out)
     SHA256_Final(out, &c);
 }
 
-/* RFC 2104 over libcrypto's plain SHA-256 calls; its HMAC calls look the digest up by name each time. */
 static void crypto_hmac(const uint8_t *key, const uint8_t *m, size_t n, uint8_t *out)
 {
-    uint8_t pad[SHA256_CBLOCK], inner[DIGEST];
-    SHA256_CTX c;
-    memset(pad, 0x36, sizeof pad);
-    for (int i = 0; i < KEY; i++)
-        pad[i] ^= key[i];
-    SHA256_Init(&c);
-    SHA256_Update(&c, pad, sizeof pad);
-    SHA256_Update(&c, m, n);
-    SHA256_Final(inner, &c);
-    for (size_t i = 0; i < sizeof pad; i++)
-        pad[i] ^= 0x36 ^ 0x5c;
-    SHA256_Init(&c);
-    SHA256_Update(&c, pad, sizeof pad);
-    SHA256_Update(&c, inner, DIGEST);
-    SHA256_Final(out, &c);
+    libcrypto_hmac(key, m, n, NULL, 0, out);
 }
 
 static void crypto_sha256_call(const uint8_t *m, size_t n, uint8_t *out)

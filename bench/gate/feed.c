@@ -12,7 +12,7 @@
  * that was computed. */
 #define OPENSSL_SUPPRESS_DEPRECATED
 #include "records.h"
-#include <openssl/sha.h>
+#include "../libcrypto_hmac.h"
 #include <unistd.h>
 
 uint32_t digest_hmac(const uint8_t *key, size_t key_length, const uint8_t *message, size_t message_length,
@@ -35,29 +35,6 @@ static void our_hmac(const uint8_t *key, const uint8_t *a, size_t a_length, cons
         digest_hmac3(key, DIGEST, a, a_length, b, b_length, b, 0, out, DIGEST);
     else
         digest_hmac(key, DIGEST, a, a_length, out, DIGEST);
-}
-
-/* Over libcrypto's plain SHA-256 calls: its HMAC calls look the digest up by name each time, which for a short message takes
- * longer than the digest. */
-static void their_hmac(const uint8_t *key, const uint8_t *a, size_t a_length, const uint8_t *b, size_t b_length,
-                       uint8_t *out)
-{
-    uint8_t pad[SHA256_CBLOCK], inner[DIGEST];
-    SHA256_CTX c;
-    memset(pad, 0x36, sizeof pad);
-    for (int i = 0; i < DIGEST; i++)
-        pad[i] ^= key[i];
-    SHA256_Init(&c);
-    SHA256_Update(&c, pad, sizeof pad);
-    SHA256_Update(&c, a, a_length);
-    SHA256_Update(&c, b, b_length);
-    SHA256_Final(inner, &c);
-    for (size_t i = 0; i < sizeof pad; i++)
-        pad[i] ^= 0x36 ^ 0x5c;
-    SHA256_Init(&c);
-    SHA256_Update(&c, pad, sizeof pad);
-    SHA256_Update(&c, inner, DIGEST);
-    SHA256_Final(out, &c);
 }
 
 /* Where operation 7 puts a new key: slot 4 the drive key, slot 3 partition A's, slot 2 working key A. */
@@ -131,7 +108,7 @@ static size_t read_block(void)
 int main(int count, char **words)
 {
     const char *word = count > 1 ? words[1] : "read";
-    hmac = !strcmp(word, "ours") ? our_hmac : !strcmp(word, "libcrypto") ? their_hmac : NULL;
+    hmac = !strcmp(word, "ours") ? our_hmac : !strcmp(word, "libcrypto") ? libcrypto_hmac : NULL;
     times = count > 2 ? atol(words[2]) : 0;
     medium = malloc(MEDIUM);
     if (!medium)
