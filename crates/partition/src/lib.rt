@@ -29,7 +29,7 @@ pub fn sound_partition(p: Partition, quarter: u32) -> bool
     ensures { λ r. ⌜ (r ≡ soundPartition quarter (viewed p)) × (r ≡ true → p .objects .count ≤ mostObjects) ⌝ }
 {
     let os = p.objects;
-    (os.count <= 16) & state::sound_objects(os, quarter, p.last)
+    (os.count <= 16) & soundness::sound_objects(os, quarter, p.last)
 }
 
 // The object with a number.

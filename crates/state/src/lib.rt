@@ -1,14 +1,14 @@
 // A partition's objects (document 01, "Drive state"): an array with a count. Everything is total: a count over the array's
 // length is taken for that length.
 ghost use mathlib.Core.Path.{_≡_};
-ghost use mathlib.Core.Bool.{Bool, _&&_, _||_, cond};
+ghost use mathlib.Core.Bool.{cond};
 ghost use mathlib.Core.List.{[], _∷_, _++_};
-ghost use Prim.Native.Nat.{ℕ, _+_, _≤_};
-ghost use lib.ListN.{take, length};
+ghost use Prim.Native.Nat.{_≤_};
+ghost use lib.ListN.{length};
 ghost use Rattle.lemmas.specs.Tests.{_under_, _is_, _isnt_};
-ghost use Rattle.lemmas.specs.Lists.{every, pairs, keep, find, change};
+ghost use Rattle.lemmas.specs.Lists.{keep, find, change};
 ghost use Rattle.rules.specs.declared.Object.{Object};
-ghost use Rattle.rules.specs.Drive.{mostObjects, soundObject, apart};
+ghost use Rattle.rules.specs.Drive.{mostObjects};
 ghost use Rattle.rules.specs.Operations.{withVersion};
 ghost use Rattle.state.specs.Objects.{listed, told};
 use lemmas::within;
@@ -117,55 +117,4 @@ pub fn renew(os: Objects, number: u32, version: u32) -> Objects
     }
     r.count = n;
     r
-}
-
-// A number from 1, a nonempty extent inside the quarter, a version not over the last given.
-fn is_sound(o: Object, quarter: u32, last: u32) -> bool
-    ensures { λ r. ⌜ r ≡ soundObject quarter last o ⌝ }
-{
-    (1 <= o.number)
-        & (1 <= o.size)
-        & (o.start as u64 + o.size as u64 <= quarter as u64)
-        & (o.version <= last)
-}
-
-// Different numbers and disjoint extents.
-fn is_apart(a: Object, b: Object) -> bool
-    ensures { λ r. ⌜ r ≡ apart a b ⌝ }
-{
-    (a.number != b.number)
-        & ((a.start as u64 + a.size as u64 <= b.start as u64)
-            | (b.start as u64 + b.size as u64 <= a.start as u64))
-}
-
-// Whether an object is apart from each of the first n.
-fn all_apart(os: Objects, n: usize, o: Object) -> bool
-    requires { ⌜ n ≤ mostObjects ⌝ }
-    ensures { λ r. ⌜ r ≡ every (λ (a : Object). apart a o) (take n (os .items)) ⌝ }
-{
-    let mut r = true;
-    let mut i = 0;
-    while i < n {
-        let x = os.items[i];
-        r = r & is_apart(x, o);
-        i += 1;
-    }
-    r
-}
-
-// Whether a partition's objects are sound.
-pub fn sound_objects(os: Objects, quarter: u32, last: u32) -> bool
-    ensures { λ r. ⌜ r ≡ (every (soundObject quarter last) (listed os) && pairs apart (listed os)) ⌝ }
-{
-    let n = within(os.count, 16);
-    let mut fit = true;
-    let mut free = true;
-    let mut i = 0;
-    while i < n {
-        let o = os.items[i];
-        fit = fit & is_sound(o, quarter, last);
-        free = free & all_apart(os, i, o);
-        i += 1;
-    }
-    fit & free
 }

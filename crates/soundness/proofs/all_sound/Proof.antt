@@ -6,17 +6,16 @@ use lib.ListN.{length, take}
 use borrow.Author.Needs.{needs}
 use Rattle.lemmas.specs.Lists.{every}
 use Rattle.lemmas.specs.Loops.{unmapped, every-take}
-use Rattle.rules.specs.declared.Object.{Object}
-use Rattle.rules.specs.Drive.{apart}
+use Rattle.rules.specs.Drive.{soundObject}
 use Rattle.rules.specs.Operations.{noObject}
-use Rattle.state.proofs.all_apart.Statement.{statement}
-use Rattle.state.proofs.all_apart.Tie as tie
+use Rattle.soundness.proofs.all_sound.Statement.{statement}
+use Rattle.soundness.proofs.all_sound.Tie as tie
 
 abbrev Inv-loop : tie.InvT-loop
-Inv-loop n o os r₀ i₀ r i = (i ≤ n) × (r ≡ every (λ (a : Object). apart a o) (take i (os .items)))
+Inv-loop n quarter last os r₀ i₀ r i = (i ≤ n) × (r ≡ every (soundObject quarter last) (take i (os .items)))
 
 abbrev μ-loop : tie.MeasureT-loop
-μ-loop n o os r₀ i₀ r i = n - i
+μ-loop n quarter last os r₀ i₀ r i = n - i
 
 loop-holds : tie.Need-loop-holds Inv-loop μ-loop
 unfolding every
@@ -27,7 +26,7 @@ loop-again c =
     let l = c .before .before .before .loop in
     let a = c .before .before .before .before .args in
     let long : length (a .t1 .items) ≡ 16 = search (needs, unmapped) in
-    (search needs, rw (every-take (λ (x : Object). apart x (a .o)) (a .t1 .items) (l .i) noObject (omega arith), l .inv .1, c .is-apart .ensures))
+    (search needs, rw (every-take (soundObject (a .quarter) (a .last)) (a .t1 .items) (l .i) noObject (omega arith), l .inv .1, c .is-sound .ensures))
 
 returns : tie.Need-returns Inv-loop μ-loop
 returns c =
@@ -36,8 +35,8 @@ returns c =
     let e : l .i ≡ a .n = omega arith in
     rw e at (l .inv .1)
 
-pub all-apart-spec : {M : Type 1} → statement M
-all-apart-spec =
+pub all-sound-spec : {M : Type 1} → statement M
+all-sound-spec =
     tie.close
     (tie.spec
     Inv-loop μ-loop loop-holds (λ c. search needs) (λ c. search needs) (λ c κs. search needs) (λ c. search needs) (λ c. search needs) loop-again returns)

@@ -2,8 +2,8 @@
 use mathlib.Core.Path.{refl}
 use borrow.Author.Needs.{needs}
 use Rattle.rules.specs.Drive.{soundObject}
-use Rattle.state.proofs.is_sound.Statement.{statement}
-use Rattle.state.proofs.is_sound.Tie as tie
+use Rattle.soundness.proofs.is_sound.Statement.{statement}
+use Rattle.soundness.proofs.is_sound.Tie as tie
 
 returns : tie.Need-returns
 unfolding soundObject

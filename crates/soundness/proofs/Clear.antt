@@ -1,0 +1,125 @@
+-- Objects that do not clash, place by place and two by two; of sound ones that is the rules' `apart`.
+use mathlib.Core.Path.{_≡_, refl, sym, ap, _∙_}
+use mathlib.Core.Bool.{Bool, true, false, not, _&&_, _||_}
+use mathlib.Core.List.{List, [], _∷_, map}
+use Prim.Native.Nat.{ℕ, zero, suc, _+_, _^_, _≤_, _<_}
+use native.Mathlib.Numerals.{add-one}
+use native.Mathlib.Decide.{decLe}
+use native.Mathlib.Omega.{arith}
+use lib.Dec.{ltb, leb}
+use lib.ListN.{length, getD, take}
+use borrow.Author.Tests.{ltb-true, ltb-false, leb-true, lt-ltb, le-ltb, le-leb, lt-leb}
+use Rattle.lemmas.specs.Tests.{_under_, _is_, _isnt_, and-l, and-r}
+use Rattle.lemmas.specs.Lists.{every, pairs}
+use Rattle.lemmas.specs.ListLaws.{nth-map}
+use Rattle.lemmas.specs.Loops.{every-take}
+use Rattle.rules.specs.declared.Object.{Object}
+use Rattle.rules.specs.Drive.{soundObject, apart}
+use Rattle.rules.specs.Operations.{noObject}
+use Rattle.soundness.specs.Spans.{endOf, clash, clashAt, below}
+
+not-or : (a b : Bool) → not (a || b) ≡ (not a && not b)
+not-or true b = refl
+not-or false b = refl
+
+not-and : (a b : Bool) → not (a && b) ≡ (not a || not b)
+not-and true b = refl
+not-and false b = refl
+
+or-none : (b : Bool) → (b || false) ≡ b
+or-none true = refl
+or-none false = refl
+
+not-under : (a b : ℕ) → not (a under b) ≡ leb b a
+not-under a b = go (ltb a b) refl
+  where
+    go : (t : Bool) → ltb a b ≡ t → not t ≡ leb b a
+    go true e = sym (lt-leb b a (ltb-true a b e))
+    go false e = sym (le-leb b a (ltb-false a b e))
+
+abbrev pub clear : Object → Object → Bool
+clear a b = not (clash a b)
+
+-- ---- object n against those before it
+module _ (l : List Object) (n : ℕ) (h : n < length l) where
+  met : ℕ → Bool
+  met i = i under n && clashAt (map Object.number l) (map Object.start l) (map endOf l) n i
+
+  clash-at : (i : ℕ) → clashAt (map Object.number l) (map Object.start l) (map endOf l) n i ≡ clash (getD l i noObject) (getD l n noObject)
+  clash-at i =
+      rw (
+        nth-map Object.number l i noObject,
+        nth-map Object.number l n noObject,
+        nth-map Object.start l i noObject,
+        nth-map Object.start l n noObject,
+        nth-map endOf l i noObject,
+        nth-map endOf l n noObject,
+      )
+
+  up-to : (k : ℕ) → k ≤ n → not (below met k) ≡ every (λ (a : Object). clear a (getD l n noObject)) (take k l)
+  unfolding below met every
+  up-to zero g = refl
+  up-to (suc k) g =
+      let t : Object → Bool = λ a. clear a (getD l n noObject) in
+      let e : met k ≡ clash (getD l k noObject) (getD l n noObject) = rw (lt-ltb k n g) (clash-at k) in
+      let more : every t (take (suc k) l) ≡ every t (take k l) && t (getD l k noObject) =
+      ap (λ (j : ℕ). every t (take j l)) (sym (add-one k)) ∙ every-take t l k noObject (omega arith) in
+      not-or (below met k) (met k) ∙ rw (up-to k (omega arith), e) (sym more)
+
+  past : (k : ℕ) → n ≤ k → below met k ≡ below met n
+  unfolding below met
+  past zero g = let e : 0 ≡ n = omega arith in ap (below met) e
+  past (suc k) g = elim (decLe n k) [
+    | yes m ↦ rw (le-ltb k n m) (or-none (below met k) ∙ past k m)
+    | no m ↦ let e : suc k ≡ n = omega arith in ap (below met) e
+  ]
+
+  -- what the loop over all sixteen places finds
+  pub clear-of-all : (numbers starts ends : List ℕ) (r : Bool) → length l ≡ 16
+      → numbers ≡ map Object.number l → starts ≡ map Object.start l → ends ≡ map endOf l
+      → r ≡ not (below (λ (i : ℕ). i under n && clashAt numbers starts ends n i) 16)
+      → r ≡ every (λ (a : Object). clear a (getD l n noObject)) (take n l)
+  unfolding met
+  clear-of-all numbers starts ends r e f g k t =
+      t ∙ rw (f, g, k) (ap not (past 16 (omega arith)) ∙ up-to n (omega arith))
+
+-- ---- sound objects
+module _ (q last : ℕ) (small : q < 2 ^ 32) where
+  exact : (a : Object) → soundObject q last a ≡ true → endOf a ≡ a .start + a .size
+  unfolding soundObject
+  exact a s =
+      let test : leb (a .start + a .size) q ≡ true = search (and-l, and-r) in
+      let inside : a .start + a .size ≤ q = leb-true (a .start + a .size) q test in
+      omega arith
+
+  clear-apart : (a b : Object) → soundObject q last a ≡ true → soundObject q last b ≡ true → clear a b ≡ apart a b
+  clear-apart a b s t =
+      not-or (a .number is b .number) (b .start under endOf a && a .start under endOf b)
+      ∙ ap (λ (x : Bool). a .number isnt b .number && x)
+      (not-and (b .start under endOf a) (a .start under endOf b)
+      ∙ rw (not-under (b .start) (endOf a), not-under (a .start) (endOf b), exact a s, exact b t))
+
+  every-apart : (a : Object) → soundObject q last a ≡ true → (l : List Object) → every (soundObject q last) l ≡ true
+      → every (clear a) l ≡ every (apart a) l
+  unfolding every
+  every-apart a s [] h = refl
+  every-apart a s (b ∷ l) h =
+      let one : soundObject q last b ≡ true = and-l (soundObject q last b) (every (soundObject q last) l) h in
+      let rest : every (soundObject q last) l ≡ true = and-r (soundObject q last b) (every (soundObject q last) l) h in
+      rw (clear-apart a b s one, every-apart a s l rest)
+
+  pairs-apart : (l : List Object) → every (soundObject q last) l ≡ true → pairs clear l ≡ pairs apart l
+  unfolding pairs every
+  pairs-apart [] h = refl
+  pairs-apart (a ∷ l) h =
+      let one : soundObject q last a ≡ true = and-l (soundObject q last a) (every (soundObject q last) l) h in
+      let rest : every (soundObject q last) l ≡ true = and-r (soundObject q last a) (every (soundObject q last) l) h in
+      rw (every-apart a one l rest, pairs-apart l rest)
+
+  -- row 1 of a list of objects, by either test
+  pub clear-pairs : (l : List Object) → (every (soundObject q last) l && pairs clear l) ≡ (every (soundObject q last) l && pairs apart l)
+  clear-pairs l = go (every (soundObject q last) l) refl
+    where
+      go : (b : Bool) → every (soundObject q last) l ≡ b → (b && pairs clear l) ≡ (b && pairs apart l)
+      go true e = pairs-apart l e
+      go false e = refl

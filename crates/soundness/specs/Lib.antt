@@ -1,0 +1,2 @@
+-- How the code tests that objects are apart.
+pub mod Spans
