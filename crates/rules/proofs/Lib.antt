@@ -1,5 +1,5 @@
--- The theorems over document 01's definitions. `Answers` has demand 1, `Demand` demand 3, `Story` the customer's story,
--- `Worked` a list of calls computed.
+-- The theorems over document 01's definitions. `Answers` has demand 1, `Demand` demand 3, `Story` the customer's story.
+-- A list of calls computed is a crate of its own, `worked`.
 pub mod Answers
 pub mod Gaps
 pub mod Placing
@@ -18,7 +18,5 @@ pub mod Renewal
 pub mod Passed
 pub mod Versions
 pub mod Story
-pub mod Signed
-pub mod Worked
 pub mod RoundTrip
 pub mod RepliesBack

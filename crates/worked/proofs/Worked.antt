@@ -11,17 +11,17 @@ use native.Mathlib.Omega.{arith}
 use lib.Dec.{T}
 use lib.ListN.{drop, getD, replicate, set}
 use Rattle.lemmas.specs.Lists.{same}
 use Rattle.rules.specs.declared.Credential.{Credential}
 use Rattle.rules.specs.declared.Request.{Request}
 use Rattle.rules.specs.Demands.{State}
 use Rattle.digest.specs.Hmac.{hmac}
 use Rattle.rules.specs.Drive.{Drive, format, Key, Keys}
 use Rattle.rules.specs.Frame.{credentialMagic, requestBytes, requestMagic}
 use Rattle.rules.specs.Gate.{Call, gate, refused}
 use Rattle.rules.specs.Operations.{keyIn}
 use Rattle.rules.specs.Program.{broken, digits, prints, program}
 use Rattle.rules.proofs.Clear.{code}
-use Rattle.rules.proofs.Signed.{
+use Rattle.worked.proofs.Signed.{
   AllKnown9,
   altered,
   answerWith,
