@@ -16,6 +16,7 @@ pub mod Demand
 pub mod Finds
 pub mod Renewal
 pub mod Passed
+pub mod Edges
 pub mod Versions
 pub mod Story
 pub mod RoundTrip

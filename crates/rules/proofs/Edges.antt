@@ -1,0 +1,26 @@
+-- Two rows where a wrong table would still hold together: a credential with every right lacks none, and a memory with an
+-- entry to spare is not full.
+use mathlib.Core.Path.{_≡_}
+use mathlib.Core.Bool.{false}
+use Prim.Native.Nat.{ℕ, zero, suc, _+_, _<_}
+use native.Mathlib.Omega.{arith}
+use lib.ListN.{length}
+use borrow.Author.Tests.{ne-eqb}
+use Rattle.rules.specs.Drive.{Drive, mostEntries}
+use Rattle.rules.specs.Frame.{Fields}
+use Rattle.rules.specs.Rows.{remembered, row13, row22}
+
+pub every-right : (x : Fields) (k : ℕ) → k < 7 → x .req .operation ≡ k + 1 → x .cred .rights ≡ 127 → row13 x ≡ false
+unfolding row13
+every-right x zero h e f = rw (e, f)
+every-right x (suc zero) h e f = rw (e, f)
+every-right x (suc (suc zero)) h e f = rw (e, f)
+every-right x (suc (suc (suc zero))) h e f = rw (e, f)
+every-right x (suc (suc (suc (suc zero)))) h e f = rw (e, f)
+every-right x (suc (suc (suc (suc (suc zero))))) h e f = rw (e, f)
+every-right x (suc (suc (suc (suc (suc (suc zero)))))) h e f = rw (e, f)
+every-right x (suc (suc (suc (suc (suc (suc (suc k))))))) h e f = absurd (omega arith)
+
+pub spare : (d : Drive) (x : Fields) → length (remembered d x) < mostEntries → row22 d x ≡ false
+unfolding row22
+spare d x h = ne-eqb (length (remembered d x)) mostEntries (λ e. omega arith)
