@@ -1,5 +1,5 @@
 -- One block: the words read, the schedule made word by word, the rounds taken one by one, and the blocks of a message.
-use mathlib.Core.Path.{_≡_, refl, sym, ap, _∙_}
+use mathlib.Core.Path.{_≡_, refl, sym, ap, ap₂, _∙_}
 use mathlib.Core.List.{List, [], _∷_, _++_}
 use Prim.Native.Nat.{ℕ, zero, suc, _+_, _-_, _*_, _/_, _%_, _^_, _≤_, _<_}
 use native.Mathlib.Nat.{add-zero, zero-add, suc-add}
@@ -181,15 +181,25 @@ unfolding compress schedule
 compress-is v m h =
     ap (λ (w : List ℕ). added v (rounds K (extend 48 w) v)) (sym (words-take 16 64 m (omega arith) h))
 
--- n blocks and then k
-blocks-add : (n k : ℕ) (v : State) (m : List ℕ) → blocks (n + k) v m ≡ blocks k (blocks n v m) (drop (64 * n) m)
+-- the clause, as an equation to rewrite with
+pub blocks-suc : (n : ℕ) (v : State) (m : List ℕ) → blocks (suc n) v m ≡ blocks n (compress v (take 64 m)) (drop 64 m)
 unfolding blocks
-blocks-add zero k v m = ap (λ (n : ℕ). blocks n v m) (zero-add k)
-blocks-add (suc n) k v m =
-    let e : 64 + 64 * n ≡ 64 * suc n = omega arith in
-    ap (λ (i : ℕ). blocks i v m) (suc-add n k)
-    ∙ blocks-add n k (compress v (take 64 m)) (drop 64 m)
-    ∙ ap (blocks k (blocks n (compress v (take 64 m)) (drop 64 m))) (rw (drop-drop (64 * n) 64 m, e))
+blocks-suc n v m = refl
+
+-- q blocks and then k
+pub blocks-add : (q k : ℕ) (s : State) (m : List ℕ) → blocks (q + k) s m ≡ blocks k (blocks q s m) (drop (q * 64) m)
+unfolding blocks
+blocks-add zero k s m = rw zero-add
+blocks-add (suc q) k s m =
+    let e : 64 + q * 64 ≡ suc q * 64 = omega arith in
+    rw (
+      suc-add,
+      blocks-suc (q + k) s m,
+      blocks-suc q s m,
+      blocks-add q k (compress s (take 64 m)) (drop 64 m),
+      drop-drop (q * 64) 64 m,
+      e,
+    )
 
 pub blocks-none : (from : ℕ) (v : State) (m : List ℕ) → v ≡ blocks ((from - from) / 64) v (drop from m)
 unfolding blocks
@@ -198,12 +208,12 @@ blocks-none from v m =
     ap (λ (n : ℕ). blocks n v (drop from m)) e
 
 -- the blocks from `from` up to `at` are worked in, and then k more, of j in all
-pub blocks-on : (k j from at : ℕ) (v : State) (m : List ℕ) → from ≤ at → (at - from) % 64 ≡ 0 → j ≡ (at - from) / 64 + k
+pub blocks-then : (k j from at : ℕ) (v : State) (m : List ℕ) → from ≤ at → (at - from) % 64 ≡ 0 → j ≡ (at - from) / 64 + k
     → blocks k (blocks ((at - from) / 64) v (drop from m)) (drop at m) ≡ blocks j v (drop from m)
-blocks-on k j from at v m h r e =
+blocks-then k j from at v m h r e =
     let n : ℕ = (at - from) / 64 in
-    let f : from + 64 * n ≡ at = omega arith in
-    ap (blocks k (blocks n v (drop from m))) (ap (λ (i : ℕ). drop i m) (sym f) ∙ sym (drop-drop (64 * n) from m))
+    let f : from + n * 64 ≡ at = omega arith in
+    ap (blocks k (blocks n v (drop from m))) (ap (λ (i : ℕ). drop i m) (sym f) ∙ sym (drop-drop (n * 64) from m))
     ∙ sym (blocks-add n k v (drop from m))
     ∙ ap (λ (i : ℕ). blocks i v (drop from m)) (sym e)
 
@@ -217,13 +227,14 @@ blocks-after-eights from v m h =
     let at : ℕ = from + n / 512 * 512 in
     let e : n / 512 * 8 ≡ (at - from) / 64 = omega arith in
     ap (λ (i : ℕ). blocks ((length m - at) / 64) (blocks i v (drop from m)) (drop at m)) e
-    ∙ blocks-on ((length m - at) / 64) (n / 64) from at v m (omega arith) (omega arith) (omega arith)
+    ∙ blocks-then ((length m - at) / 64) (n / 64) from at v m (omega arith) (omega arith) (omega arith)
 
 -- block l of m, after those before it
 pub block-next : (l : ℕ) (v u : State) (m : List ℕ) → 64 * l + 64 ≤ length m → u ≡ blocks l v m
     → added u (rounds K (schedule (drop (64 * l) m)) u) ≡ blocks (l + 1) v m
 unfolding blocks
 block-next l v u m h e =
+    let c : 64 * l ≡ l * 64 = omega arith in
     compress-is u (drop (64 * l) m) (simp length-drop (omega arith))
-    ∙ ap (λ (s : State). compress s (take 64 (drop (64 * l) m))) e
+    ∙ ap₂ (λ (s : State) (i : ℕ). compress s (take 64 (drop i m))) e c
     ∙ sym (blocks-add l 1 v m)

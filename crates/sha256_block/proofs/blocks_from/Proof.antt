@@ -1,10 +1,10 @@
--- The blocks up to `at` are worked in: blocks-on.
+-- The blocks up to `at` are worked in: blocks-then.
 use mathlib.Core.Path.{_≡_, ap, _∙_}
 use Prim.Native.Nat.{ℕ, _≤_, _-_, _+_, _/_, _%_}
 use native.Mathlib.Omega.{arith}
 use lib.ListN.{length, take, drop}
 use Rattle.sha256_block.specs.Sha256.{blocks, compress}
-use Rattle.sha256_block.proofs.Compression.{blocks-none, blocks-on}
+use Rattle.sha256_block.proofs.Compression.{blocks-none, blocks-then}
 use Rattle.sha256_block.proofs.blocks_from.Statement.{statement}
 use Rattle.sha256_block.proofs.blocks_from.Tie as tie
 
@@ -30,7 +30,7 @@ loop-again c =
       omega arith,
       c .compress-at .ensures
           ∙ ap (λ v. compress v (take 64 (drop at m))) (i .3)
-          ∙ blocks-on 1 ((at + 64 - a .from) / 64) (a .from) at (a .s) m (i .0) (i .2) (omega arith),
+          ∙ blocks-then 1 ((at + 64 - a .from) / 64) (a .from) at (a .s) m (i .0) (i .2) (omega arith),
     )
 
 returns : tie.Need-returns Inv-loop μ-loop

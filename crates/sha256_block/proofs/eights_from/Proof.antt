@@ -1,10 +1,10 @@
--- The blocks up to `at` are worked in, eight in a turn: blocks-on.
+-- The blocks up to `at` are worked in, eight in a turn: blocks-then.
 use mathlib.Core.Path.{_≡_, ap, _∙_}
 use Prim.Native.Nat.{ℕ, _≤_, _-_, _+_, _*_, _/_, _%_}
 use native.Mathlib.Omega.{arith}
 use lib.ListN.{length, drop}
 use Rattle.sha256_block.specs.Sha256.{blocks}
-use Rattle.sha256_block.proofs.Compression.{blocks-none, blocks-on}
+use Rattle.sha256_block.proofs.Compression.{blocks-none, blocks-then}
 use Rattle.sha256_block.proofs.eights_from.Statement.{statement}
 use Rattle.sha256_block.proofs.eights_from.Tie as tie
 
@@ -29,7 +29,7 @@ loop-again c =
       omega arith,
       c .eight-at .ensures
           ∙ ap (λ v. blocks 8 v (drop at m)) (i .3)
-          ∙ blocks-on 8 ((at + 512 - a .from) / 64) (a .from) at (a .s) m (i .0) (omega arith) (omega arith),
+          ∙ blocks-then 8 ((at + 512 - a .from) / 64) (a .from) at (a .s) m (i .0) (omega arith) (omega arith),
     )
 
 returns : tie.Need-returns Inv-loop μ-loop
