@@ -8,7 +8,8 @@ use native.Mathlib.Decide.{decLt}
 use native.Mathlib.Omega.{arith}
 use lib.ListN.{length, getD, take, drop, set, length-append, length-drop, length-set, take-append-drop}
 use lib.ListN.{List·getD-append}
-use lib.Seq.{drop-cons, take-suc-set, getD-take, drop-drop, drop-append-le, length-take-le, getD-set-same, getD-drop, getD-append-seam}
+use lib.Seq.{drop-cons, take-suc-set, getD-take, drop-drop, drop-append-le, length-take-le, getD-set-same, getD-drop}
+use lib.Seq.{getD-append-seam}
 use Rattle.lemmas.specs.BigEndian.{numberAt, number-left}
 use Rattle.sha256_block.specs.declared.State.{State}
 use Rattle.sha256_block.specs.Sha256.{words, next, extend, schedule, round, rounds, added, compress, blocks, K}
@@ -30,7 +31,7 @@ words-suc (suc n) s =
     let e : 4 + 4 * n ≡ 4 * suc n = omega arith in
     rw (words-suc n (drop 4 s), drop-drop (4 * n) 4 s, e)
 
-pub length-words : (n : ℕ) (s : List ℕ) → length (words n s) ≡ n
+length-words : (n : ℕ) (s : List ℕ) → length (words n s) ≡ n
 unfolding words
 length-words zero s = refl
 length-words (suc n) s = rw (length-words n (drop 4 s))
@@ -176,7 +177,8 @@ later-step k w t v h l hk hw =
 -- ---- blocks
 
 -- the schedule looks no further than the block
-pub compress-is : (v : State) (m : List ℕ) → 64 ≤ length m → added v (rounds K (schedule m) v) ≡ compress v (take 64 m)
+pub compress-is : (v : State) (m : List ℕ) → 64 ≤ length m
+    → added v (rounds K (schedule m) v) ≡ compress v (take 64 m)
 unfolding compress schedule
 compress-is v m h =
     ap (λ (w : List ℕ). added v (rounds K (extend 48 w) v)) (sym (words-take 16 64 m (omega arith) h))
@@ -208,7 +210,8 @@ blocks-none from v m =
     ap (λ (n : ℕ). blocks n v (drop from m)) e
 
 -- the blocks from `from` up to `at` are worked in, and then k more, of j in all
-pub blocks-then : (k j from at : ℕ) (v : State) (m : List ℕ) → from ≤ at → (at - from) % 64 ≡ 0 → j ≡ (at - from) / 64 + k
+pub blocks-then : (k j from at : ℕ) (v : State) (m : List ℕ)
+    → from ≤ at → (at - from) % 64 ≡ 0 → j ≡ (at - from) / 64 + k
     → blocks k (blocks ((at - from) / 64) v (drop from m)) (drop at m) ≡ blocks j v (drop from m)
 blocks-then k j from at v m h r e =
     let n : ℕ = (at - from) / 64 in

@@ -9,23 +9,22 @@ use lib.Seq.{getD-set-same, getD-set-other, drop-drop}
 use Rattle.lemmas.specs.BigEndian.{numberAt}
 use Rattle.sha256_block.specs.declared.State.{State}
 use Rattle.sha256_block.specs.Sha256.{_⊞_, σ₀, σ₁, next, schedule, round, rounds}
-use Rattle.sha256_block.specs.Lanes.{Lanes}
+use Rattle.sha256_block.specs.Lanes.{laneWord, Lanes}
 use Rattle.sha256_block.proofs.Compression.{length-schedule, schedule-first, schedule-next, rounds-step}
 
--- a word of lane l by its number in the schedule
-word-of : (w m : List ℕ) (n t l : ℕ) → Lanes n w m → l < 8 → 8 * t + l < n
-    → getD w (8 * t + l) 0 ≡ getD (schedule (drop (64 * l) m)) t 0
-word-of w m n t l known h u =
+-- word t of lane l
+lane-word : (m : List ℕ) (t l : ℕ) → l < 8 → laneWord m (8 * t + l) ≡ getD (schedule (drop (64 * l) m)) t 0
+lane-word m t l h =
     let e : (8 * t + l) % 8 ≡ l = omega arith in
     let f : (8 * t + l) / 8 ≡ t = omega arith in
-    known (8 * t + l) u ∙ ap₂ (λ (i j : ℕ). getD (schedule (drop (64 * i) m)) j 0) e f
+    ap₂ (λ (i j : ℕ). getD (schedule (drop (64 * i) m)) j 0) e f
 
 pub lanes-none : (w m : List ℕ) → Lanes 0 w m
 lanes-none w m q h = absurd (omega arith)
 
 -- one word more
-pub lanes-grow : (w m : List ℕ) (p x : ℕ) → p < length w → Lanes p w m
-    → x ≡ getD (schedule (drop (64 * (p % 8)) m)) (p / 8) 0 → Lanes (p + 1) (set w p x) m
+pub lanes-grow : (w m : List ℕ) (p x : ℕ) → p < length w → Lanes p w m → x ≡ laneWord m p
+    → Lanes (p + 1) (set w p x) m
 lanes-grow w m p x h known e q u =
     elim (decLt q p) [
       | yes l ↦ getD-set-other w p q x 0 (λ s. omega arith) ∙ known q l
@@ -36,12 +35,14 @@ lanes-grow w m p x h known e q u =
 
 -- a word of the blocks themselves
 pub lanes-load : (s : List ℕ) (at t l : ℕ) → t < 16 → l < 8
-    → numberAt (drop (at + 64 * l + 4 * t) s) 0 4
-    ≡ getD (schedule (drop (64 * ((8 * t + l) % 8)) (drop at s))) ((8 * t + l) / 8) 0
+    → numberAt (drop (at + 64 * l + 4 * t) s) 0 4 ≡ laneWord (drop at s) (8 * t + l)
 lanes-load s at t l h u =
-    let e : (8 * t + l) % 8 ≡ l = omega arith in
-    let f : (8 * t + l) / 8 ≡ t = omega arith in
-    rw (e, f, schedule-first (drop (64 * l) (drop at s)) t h, drop-drop (64 * l) at s, drop-drop (4 * t) (at + 64 * l) s)
+    rw (
+      lane-word (drop at s) t l u,
+      schedule-first (drop (64 * l) (drop at s)) t h,
+      drop-drop (64 * l) at s,
+      drop-drop (4 * t) (at + 64 * l) s,
+    )
 
 -- a word of the lane of p, i words before it
 back : (w m : List ℕ) (p i : ℕ) → Lanes p w m → 1 ≤ i → 8 * i ≤ p
@@ -58,16 +59,14 @@ next-is w t = refl
 
 -- the next word of a lane
 pub lanes-next : (w m : List ℕ) (p : ℕ) → 128 ≤ p → p < 512 → Lanes p w m
-    → σ₁ (getD w (p - 16) 0) ⊞ getD w (p - 56) 0 ⊞ σ₀ (getD w (p - 120) 0) ⊞ getD w (p - 128) 0
-    ≡ getD (schedule (drop (64 * (p % 8)) m)) (p / 8) 0
+    → σ₁ (getD w (p - 16) 0) ⊞ getD w (p - 56) 0 ⊞ σ₀ (getD w (p - 120) 0) ⊞ getD w (p - 128) 0 ≡ laneWord m p
 lanes-next w m p h u known =
-    let s : List ℕ = schedule (drop (64 * (p % 8)) m) in
     rw (
       back w m p 2 known (omega arith) (omega arith),
       back w m p 7 known (omega arith) (omega arith),
       back w m p 15 known (omega arith) (omega arith),
       back w m p 16 known (omega arith) (omega arith),
-      ← next-is s (p / 8),
+      ← next-is (schedule (drop (64 * (p % 8)) m)) (p / 8),
     )
     (sym (schedule-next (drop (64 * (p % 8)) m) (p / 8) (omega arith) (omega arith)))
 
@@ -81,5 +80,6 @@ pub lane-step : (k w m : List ℕ) (l t : ℕ) (v : State) → length k ≡ 64 �
 lane-step k w m l t v hk known hl ht =
     let s : List ℕ = schedule (drop (64 * l) m) in
     let ls : length s ≡ 64 = length-schedule (drop (64 * l) m) in
-    ap (λ (x : ℕ). leftOf k l m (t + 1) (round (getD k t 0) x v)) (word-of w m 512 t l known hl (omega arith))
+    ap (λ (x : ℕ). leftOf k l m (t + 1) (round (getD k t 0) x v))
+    (known (8 * t + l) (omega arith) ∙ lane-word m t l hl)
     ∙ sym (rounds-step k s t v (omega arith) (omega arith))

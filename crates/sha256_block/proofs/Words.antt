@@ -4,7 +4,7 @@ use Prim.Native.Nat.{ℕ, _+_, _*_, _/_, _%_, _^_, _<_}
 use native.Mathlib.Omega.{arith}
 use lib.Bits.{bitAnd, bitOr, bitXor, xor-comm, xor-shifted, or-shifted-r}
 use Rattle.lemmas.specs.Bits.{xor-assoc, majority, choice}
-use Rattle.sha256_block.specs.Sha256.{_⊕_, _⊞_, ROTR, Ch, Maj, σ₀, σ₁}
+use Rattle.sha256_block.specs.Sha256.{_⊕_, _⊞_, Ch, Maj, σ₀, σ₁}
 
 -- ---- rotates as their shifts
 
@@ -38,14 +38,16 @@ pub σ₀-is : (x : ℕ) → x < 2 ^ 32
     → (x / 2 ^ 3 ⊕ x / 2 ^ 7 ⊕ x / 2 ^ 18) ⊕ (x * 2 ^ 25 % 2 ^ 32 ⊕ x * 2 ^ 14 % 2 ^ 32) ≡ σ₀ x
 σ₀-is x h =
     regrouped (x / 2 ^ 3) (x / 2 ^ 7) (x / 2 ^ 18) (x * 2 ^ 25 % 2 ^ 32) (x * 2 ^ 14 % 2 ^ 32)
-    ∙ ap₂ (λ (u v : ℕ). u ⊕ v ⊕ x / 2 ^ 3) (sym (apart 25 (x % 2 ^ 7) (x / 2 ^ 7) (x * 2 ^ 25 % 2 ^ 32) (omega arith) (omega arith)))
+    ∙ ap₂ (λ (u v : ℕ). u ⊕ v ⊕ x / 2 ^ 3)
+    (sym (apart 25 (x % 2 ^ 7) (x / 2 ^ 7) (x * 2 ^ 25 % 2 ^ 32) (omega arith) (omega arith)))
     (sym (apart 14 (x % 2 ^ 18) (x / 2 ^ 18) (x * 2 ^ 14 % 2 ^ 32) (omega arith) (omega arith)))
 
 pub σ₁-is : (x : ℕ) → x < 2 ^ 32
     → (x / 2 ^ 10 ⊕ x / 2 ^ 17 ⊕ x / 2 ^ 19) ⊕ (x * 2 ^ 15 % 2 ^ 32 ⊕ x * 2 ^ 13 % 2 ^ 32) ≡ σ₁ x
 σ₁-is x h =
     regrouped (x / 2 ^ 10) (x / 2 ^ 17) (x / 2 ^ 19) (x * 2 ^ 15 % 2 ^ 32) (x * 2 ^ 13 % 2 ^ 32)
-    ∙ ap₂ (λ (u v : ℕ). u ⊕ v ⊕ x / 2 ^ 10) (sym (apart 15 (x % 2 ^ 17) (x / 2 ^ 17) (x * 2 ^ 15 % 2 ^ 32) (omega arith) (omega arith)))
+    ∙ ap₂ (λ (u v : ℕ). u ⊕ v ⊕ x / 2 ^ 10)
+    (sym (apart 15 (x % 2 ^ 17) (x / 2 ^ 17) (x * 2 ^ 15 % 2 ^ 32) (omega arith) (omega arith)))
     (sym (apart 13 (x % 2 ^ 19) (x / 2 ^ 19) (x * 2 ^ 13 % 2 ^ 32) (omega arith) (omega arith)))
 
 -- ---- a round's sum T₁
@@ -61,4 +63,12 @@ sum-right a b = omega arith
 pub T₁-is : (h s c k w : ℕ) → h ⊞ (k ⊞ w) ⊞ c ⊞ s ≡ h ⊞ s ⊞ c ⊞ k ⊞ w
 T₁-is h s c k w =
     let e : h + (k + w) + c + s ≡ h + s + c + k + w = omega arith in
-    rw (sum-right h (k + w), sum-left (h + (k + w)) c, sum-left (h + (k + w) + c) s, sum-left (h + s) c, sum-left (h + s + c) k, sum-left (h + s + c + k) w, e)
+    rw (
+      sum-right h (k + w),
+      sum-left (h + (k + w)) c,
+      sum-left (h + (k + w) + c) s,
+      sum-left (h + s) c,
+      sum-left (h + s + c) k,
+      sum-left (h + s + c + k) w,
+      e,
+    )

@@ -1,11 +1,11 @@
-// The schedules of eight blocks side by side, word `t` of block `l` at `8 * t + l`: what one block does is done to eight
-// words in a row, and the compiler makes four of them at a time.
+// Eight blocks at a time, their schedules side by side: word `t` of block `l`, in lane `l`, is word `8 * t + l`.
+// No word needs one of the fifteen before it, so the compiler makes four words at a time.
 ghost use mathlib.Core.Path.{_≡_};
 ghost use mathlib.Core.List.{List};
-ghost use Prim.Native.Nat.{ℕ, _+_, _*_, _/_, _%_, _≤_, _<_};
-ghost use lib.ListN.{length, getD, drop};
+ghost use Prim.Native.Nat.{ℕ, _+_, _*_, _≤_, _<_};
+ghost use lib.ListN.{length, drop};
 ghost use Rattle.sha256_block.specs.Sha256 as Fips;
-ghost use Rattle.sha256_block.specs.Lanes.{Lanes};
+ghost use Rattle.sha256_block.specs.Lanes.{laneWord, Lanes};
 use crate::ROUND_WORDS;
 use crate::State;
 use crate::added;
@@ -31,11 +31,10 @@ fn load(m: &[u8], at: usize, w: &mut [u32; 512])
     }
 }
 
-// Word `p`, from those of its lane before it.
+// Word `p`, from the words 2, 7, 15 and 16 steps before it in its lane.
 fn next_at(w: &[u32; 512], p: usize) -> u32
     requires { ⌜ (128 ≤ p) × (p < 512) × (length (now w) ≡ 512) ⌝ }
-    ensures { λ r. ⌜ ((m : List ℕ) → Lanes p (now (w .entry)) m
-        → r ≡ getD (Fips.schedule (drop (64 * (p % 8)) m)) (p / 8) 0) ⌝ }
+    ensures { λ r. ⌜ ((m : List ℕ) → Lanes p (now (w .entry)) m → r ≡ laneWord m p) ⌝ }
 {
     wrapping_add_u32(
         wrapping_add_u32(
@@ -46,7 +45,7 @@ fn next_at(w: &[u32; 512], p: usize) -> u32
     )
 }
 
-// The other 48 words of each, from those before them.
+// The other 48 words of each, over the sixteen that `w` has.
 fn extend(w: &mut [u32; 512])
     requires { ⌜ length (now w) ≡ 512 ⌝ }
     ensures { λ _. ⌜ (length (now (w .exit)) ≡ 512)
@@ -59,7 +58,7 @@ fn extend(w: &mut [u32; 512])
     }
 }
 
-// The block whose schedule is lane `l` of `w`, worked into `s`. Eight rounds to a turn: the inner loop is unrolled.
+// The 64 rounds over lane `l`. Eight to a turn: the inner loop is unrolled.
 fn lane_rounds(k: &[u32; 64], w: &[u32; 512], l: usize, s: State) -> State
     requires { ⌜ (length (now k) ≡ 64) × (length (now w) ≡ 512) × (l < 8) ⌝ }
     ensures { λ r. ⌜ ((m : List ℕ) → Lanes 512 (now (w .entry)) m
@@ -77,7 +76,7 @@ fn lane_rounds(k: &[u32; 64], w: &[u32; 512], l: usize, s: State) -> State
     v
 }
 
-// The eight blocks whose schedules are the lanes of `w`, worked into `s` one after the other.
+// The eight blocks whose schedules `w` has, worked into `s` one after the other.
 fn compress_lanes(w: &[u32; 512], s: State) -> State
     requires { ⌜ length (now w) ≡ 512 ⌝ }
     ensures { λ r. ⌜ ((m : List ℕ) → Lanes 512 (now (w .entry)) m → 512 ≤ length m → r ≡ Fips.blocks 8 s m) ⌝ }

@@ -47,14 +47,14 @@ pub fn small1(x: u32) -> u32
     ((x >> 17) | (x << 15)) ^ ((x >> 19) | (x << 13)) ^ (x >> 10)
 }
 
-// The same as `small0` and `small1`, each shift by itself: where the compiler sees a rotate, it does not compute four
-// words at a time.
+// The same as `small0`, by shifts alone, for words that are made four at a time: of four words there is no rotate.
 pub fn shifts0(x: u32) -> u32
     ensures { λ r. ⌜ r ≡ σ₀ x ⌝ }
 {
     ((x >> 3) ^ (x >> 7) ^ (x >> 18)) ^ ((x << 25) ^ (x << 14))
 }
 
+// The same as `small1`, by shifts alone.
 pub fn shifts1(x: u32) -> u32
     ensures { λ r. ⌜ r ≡ σ₁ x ⌝ }
 {

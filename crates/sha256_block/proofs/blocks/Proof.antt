@@ -26,4 +26,5 @@ pub blocks-spec : {M : Type 1} → statement M
 blocks-spec =
     tie.close
     (tie.spec
-    returns (λ c κs. search needs) (λ c. search needs) (λ c. search needs) (λ c. search needs) (λ c κs. omega arith) returns-2)
+    returns (λ c κs. search needs) (λ c. search needs) (λ c. search needs) (λ c. search needs)
+    (λ c κs. omega arith) returns-2)

@@ -16,7 +16,9 @@ abbrev μ-loop : tie.MeasureT-loop
 μ-loop m from v₀ at₀ v at = length m - at
 
 loop-holds : tie.Need-loop-holds Inv-loop μ-loop
-loop-holds c = (omega arith, omega arith, omega arith, blocks-none (c .before .args .from) (c .before .args .s) (c .before .args .m .now))
+loop-holds c =
+    let a = c .before .args in
+    (omega arith, omega arith, omega arith, blocks-none (a .from) (a .s) (a .m .now))
 
 loop-again : tie.Need-loop-again Inv-loop μ-loop
 loop-again c =

@@ -17,7 +17,8 @@ returns c =
     let start = c .before .before .before .before .before .before .before in
     let m = drop (start .args .at) (start .args .m .now) in
     let h : 512 ≤ length m = simp length-drop (omega (arith, start .pre)) in
-    c .compress-lanes .ensures m (c .before .before .extend .ensures .1 m (c .before .before .before .before .load .ensures .1)) h
+    let first = c .before .before .before .before .load .ensures .1 in
+    c .compress-lanes .ensures m (c .before .before .extend .ensures .1 m first) h
 
 pub eight-at-spec : {M : Type 1} → statement M
 eight-at-spec =

@@ -27,7 +27,8 @@ loop-again c =
       omega arith,
       omega arith,
       rw length-set (i .2),
-      λ m known. lanes-grow w m p (c .next-at .result) (omega arith) (i .3 m known) (c .next-at .ensures m (i .3 m known)),
+      λ m known. let before = i .3 m known in
+          lanes-grow w m p (c .next-at .result) (omega arith) before (c .next-at .ensures m before),
     )
 
 returns : tie.Need-returns Inv-loop μ-loop

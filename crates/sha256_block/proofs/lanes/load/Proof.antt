@@ -22,7 +22,8 @@ abbrev μ-loop : tie.MeasureT-loop
 
 loop-holds : tie.Need-loop-holds Inv-loop2 μ-loop2 Inv-loop μ-loop
 loop-holds c =
-    (omega arith, c .before .pre .1, lanes-none (c .before .args .w .now) (drop (c .before .args .at) (c .before .args .m .now)))
+    let a = c .before .args in
+    (omega arith, c .before .pre .1, lanes-none (a .w .now) (drop (a .at) (a .m .now)))
 
 loop2-holds : tie.Need-loop2-holds Inv-loop2 μ-loop2 Inv-loop μ-loop
 loop2-holds c =

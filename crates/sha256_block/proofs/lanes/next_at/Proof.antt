@@ -1,5 +1,4 @@
 -- The sum of the four words, by what each call ensures, is the next word of its lane: lanes-next.
-use mathlib.Core.Path.{_∙_}
 use borrow.Author.Needs.{needs}
 use Rattle.sha256_block.proofs.Schedules.{lanes-next}
 use Rattle.sha256_block.proofs.lanes.next_at.Statement.{statement}
