@@ -1,16 +1,18 @@
 -- One block: the words read, the schedule made word by word, the rounds taken one by one, and the blocks of a message.
-use mathlib.Core.Path.{_≡_, refl, sym, ap, _∙_}
+use mathlib.Core.Path.{_≡_, refl, sym, ap, ap₂, _∙_}
 use mathlib.Core.List.{List, [], _∷_, _++_}
-use Prim.Native.Nat.{ℕ, zero, suc, _+_, _-_, _*_, _/_, _^_, _≤_, _<_}
-use native.Mathlib.Nat.{add-zero}
+use Prim.Native.Nat.{ℕ, zero, suc, _+_, _-_, _*_, _/_, _%_, _^_, _≤_, _<_}
+use native.Mathlib.Nat.{add-zero, zero-add, suc-add}
 use native.Mathlib.Numerals.{add-one}
+use native.Mathlib.Decide.{decLt}
 use native.Mathlib.Omega.{arith}
 use lib.ListN.{length, getD, take, drop, set, length-append, length-drop, length-set, take-append-drop}
 use lib.ListN.{List·getD-append}
 use lib.Seq.{drop-cons, take-suc-set, getD-take, drop-drop, drop-append-le, length-take-le, getD-set-same, getD-drop}
+use lib.Seq.{getD-append-seam}
 use Rattle.lemmas.specs.BigEndian.{numberAt, number-left}
 use Rattle.sha256_block.specs.declared.State.{State}
-use Rattle.sha256_block.specs.Sha256.{words, next, extend, round, rounds, compress, blocks}
+use Rattle.sha256_block.specs.Sha256.{words, next, extend, schedule, round, rounds, added, compress, blocks, K}
 
 -- ---- words
 
@@ -29,6 +31,19 @@ words-suc (suc n) s =
     let e : 4 + 4 * n ≡ 4 * suc n = omega arith in
     rw (words-suc n (drop 4 s), drop-drop (4 * n) 4 s, e)
 
+length-words : (n : ℕ) (s : List ℕ) → length (words n s) ≡ n
+unfolding words
+length-words zero s = refl
+length-words (suc n) s = rw (length-words n (drop 4 s))
+
+getD-words : (n : ℕ) (s : List ℕ) (i : ℕ) → i < n → getD (words n s) i 0 ≡ numberAt (drop (4 * i) s) 0 4
+unfolding words
+getD-words zero s i h = absurd (omega arith)
+getD-words (suc n) s zero h = refl
+getD-words (suc n) s (suc i) h =
+    let e : 4 + 4 * i ≡ 4 * suc i = omega arith in
+    getD-words n (drop 4 s) i (omega arith) ∙ rw (drop-drop (4 * i) 4 s, e)
+
 -- words look no further than their bytes
 words-append : (n : ℕ) (a b : List ℕ) → 4 * n ≤ length a → words n (a ++ b) ≡ words n a
 unfolding words
@@ -43,16 +58,14 @@ words-take n k s h l =
 
 -- ---- the schedule
 
-next-take : (w : List ℕ) (t : ℕ) → 16 ≤ t → t ≤ length w → next (take t w) (length (take t w)) ≡ next w t
+-- a word looks at those before it alone
+next-same : (u w : List ℕ) (t : ℕ) → 16 ≤ t → ((i : ℕ) → i < t → getD u i 0 ≡ getD w i 0) → next u t ≡ next w t
 unfolding next
-next-take w t h l =
-    rw (
-      length-take-le t w l,
-      getD-take t w (t - 2) 0 (omega arith),
-      getD-take t w (t - 7) 0 (omega arith),
-      getD-take t w (t - 15) 0 (omega arith),
-      getD-take t w (t - 16) 0 (omega arith),
-    )
+next-same u w t h e =
+    rw (e (t - 2) (omega arith), e (t - 7) (omega arith), e (t - 15) (omega arith), e (t - 16) (omega arith))
+
+next-take : (w : List ℕ) (t : ℕ) → 16 ≤ t → t ≤ length w → next (take t w) (length (take t w)) ≡ next w t
+next-take w t h l = rw (length-take-le t w l) (next-same (take t w) w t h (λ i k. getD-take t w i 0 k))
 
 -- the clause, as an equation to rewrite with
 extend-suc : (n : ℕ) (w : List ℕ) → extend (suc n) w ≡ extend n (w ++ next w (length w) ∷ [])
@@ -81,10 +94,46 @@ getD-extend (suc n) w i h =
     getD-extend n (w ++ next w (length w) ∷ []) i (simp length-append (omega arith))
     ∙ List·getD-append w (next w (length w) ∷ []) 0 i h
 
+-- each word that was added is the next of those before it
+extend-next : (n : ℕ) (w : List ℕ) (t : ℕ) → 16 ≤ length w → length w ≤ t → t < length w + n
+    → getD (extend n w) t 0 ≡ next (extend n w) t
+extend-next zero w t h l u = absurd (omega arith)
+extend-next (suc n) w t h l u =
+    let x : ℕ = next w (length w) in
+    let v : List ℕ = w ++ x ∷ [] in
+    let lv : length v ≡ length w + 1 = length-append w (x ∷ []) in
+    elim (decLt (length w) t) [
+      | yes g ↦ rw extend-suc (extend-next n v t (omega arith) (omega arith) (omega arith))
+      | no g ↦
+          let e : t ≡ length w = omega arith in
+          let same : (i : ℕ) → i < length w → getD (extend n v) i 0 ≡ getD w i 0 =
+          λ i k. getD-extend n v i (omega arith) ∙ List·getD-append w (x ∷ []) 0 i k in
+          rw (extend-suc, e, getD-extend n v (length w) (omega arith), getD-append-seam w x [] 0)
+          (sym (next-same (extend n v) w (length w) h same))
+    ]
+
+-- ---- the schedule of a block
+
+pub length-schedule : (m : List ℕ) → length (schedule m) ≡ 64
+unfolding schedule
+length-schedule m = rw (length-extend 48 (words 16 m), length-words 16 m)
+
+pub schedule-first : (m : List ℕ) (t : ℕ) → t < 16 → getD (schedule m) t 0 ≡ numberAt (drop (4 * t) m) 0 4
+unfolding schedule
+schedule-first m t h =
+    let l : length (words 16 m) ≡ 16 = length-words 16 m in
+    getD-extend 48 (words 16 m) t (omega arith) ∙ getD-words 16 m t h
+
+pub schedule-next : (m : List ℕ) (t : ℕ) → 16 ≤ t → t < 64 → getD (schedule m) t 0 ≡ next (schedule m) t
+unfolding schedule
+schedule-next m t h l =
+    let e : length (words 16 m) ≡ 16 = length-words 16 m in
+    extend-next 48 (words 16 m) t (omega arith) (omega arith) (omega arith)
+
 -- ---- rounds
 
 -- a round taken off the front
-rounds-step : (ks ws : List ℕ) (t : ℕ) (v : State) → t < length ks → t < length ws
+pub rounds-step : (ks ws : List ℕ) (t : ℕ) (v : State) → t < length ks → t < length ws
     → rounds (drop t ks) (drop t ws) v
     ≡ rounds (drop (t + 1) ks) (drop (t + 1) ws) (round (getD ks t 0) (getD ws t 0) v)
 unfolding rounds
@@ -127,15 +176,68 @@ later-step k w t v h l hk hw =
 
 -- ---- blocks
 
+-- the schedule looks no further than the block
+pub compress-is : (v : State) (m : List ℕ) → 64 ≤ length m
+    → added v (rounds K (schedule m) v) ≡ compress v (take 64 m)
+unfolding compress schedule
+compress-is v m h =
+    ap (λ (w : List ℕ). added v (rounds K (extend 48 w) v)) (sym (words-take 16 64 m (omega arith) h))
+
 -- the clause, as an equation to rewrite with
 pub blocks-suc : (n : ℕ) (v : State) (m : List ℕ) → blocks (suc n) v m ≡ blocks n (compress v (take 64 m)) (drop 64 m)
 unfolding blocks
 blocks-suc n v m = refl
 
--- a block taken off the front of what is left
-pub blocks-step : (n at : ℕ) (m : List ℕ) (v : State) → n ≡ length m → at + 64 ≤ n
-    → blocks ((n - at) / 64) v (drop at m)
-    ≡ blocks ((n - (at + 64)) / 64) (compress v (take 64 (drop at m))) (drop (at + 64) m)
-blocks-step n at m v e h =
-    let d : (n - at) / 64 ≡ suc ((n - (at + 64)) / 64) = omega arith in
-    rw (d, blocks-suc, drop-drop 64 at m)
+-- q blocks and then k
+pub blocks-add : (q k : ℕ) (s : State) (m : List ℕ) → blocks (q + k) s m ≡ blocks k (blocks q s m) (drop (q * 64) m)
+unfolding blocks
+blocks-add zero k s m = rw zero-add
+blocks-add (suc q) k s m =
+    let e : 64 + q * 64 ≡ suc q * 64 = omega arith in
+    rw (
+      suc-add,
+      blocks-suc (q + k) s m,
+      blocks-suc q s m,
+      blocks-add q k (compress s (take 64 m)) (drop 64 m),
+      drop-drop (q * 64) 64 m,
+      e,
+    )
+
+pub blocks-none : (from : ℕ) (v : State) (m : List ℕ) → v ≡ blocks ((from - from) / 64) v (drop from m)
+unfolding blocks
+blocks-none from v m =
+    let e : 0 ≡ (from - from) / 64 = omega arith in
+    ap (λ (n : ℕ). blocks n v (drop from m)) e
+
+-- the blocks from `from` up to `at` are worked in, and then k more, of j in all
+pub blocks-then : (k j from at : ℕ) (v : State) (m : List ℕ)
+    → from ≤ at → (at - from) % 64 ≡ 0 → j ≡ (at - from) / 64 + k
+    → blocks k (blocks ((at - from) / 64) v (drop from m)) (drop at m) ≡ blocks j v (drop from m)
+blocks-then k j from at v m h r e =
+    let n : ℕ = (at - from) / 64 in
+    let f : from + n * 64 ≡ at = omega arith in
+    ap (blocks k (blocks n v (drop from m))) (ap (λ (i : ℕ). drop i m) (sym f) ∙ sym (drop-drop (n * 64) from m))
+    ∙ sym (blocks-add n k v (drop from m))
+    ∙ ap (λ (i : ℕ). blocks i v (drop from m)) (sym e)
+
+-- as many eights as there are, and then the others
+pub blocks-after-eights : (from : ℕ) (v : State) (m : List ℕ) → from ≤ length m
+    → blocks ((length m - (from + (length m - from) / 512 * 512)) / 64)
+    (blocks ((length m - from) / 512 * 8) v (drop from m)) (drop (from + (length m - from) / 512 * 512) m)
+    ≡ blocks ((length m - from) / 64) v (drop from m)
+blocks-after-eights from v m h =
+    let n : ℕ = length m - from in
+    let at : ℕ = from + n / 512 * 512 in
+    let e : n / 512 * 8 ≡ (at - from) / 64 = omega arith in
+    ap (λ (i : ℕ). blocks ((length m - at) / 64) (blocks i v (drop from m)) (drop at m)) e
+    ∙ blocks-then ((length m - at) / 64) (n / 64) from at v m (omega arith) (omega arith) (omega arith)
+
+-- block l of m, after those before it
+pub block-next : (l : ℕ) (v u : State) (m : List ℕ) → 64 * l + 64 ≤ length m → u ≡ blocks l v m
+    → added u (rounds K (schedule (drop (64 * l) m)) u) ≡ blocks (l + 1) v m
+unfolding blocks
+block-next l v u m h e =
+    let c : 64 * l ≡ l * 64 = omega arith in
+    compress-is u (drop (64 * l) m) (simp length-drop (omega arith))
+    ∙ ap₂ (λ (s : State) (i : ℕ). compress s (take 64 (drop i m))) e c
+    ∙ sym (blocks-add l 1 v m)

@@ -1,2 +1,3 @@
 pub mod Words
 pub mod Compression
+pub mod Schedules

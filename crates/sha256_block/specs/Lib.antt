@@ -1,2 +1,3 @@
 -- FIPS 180-4.
 pub mod Sha256
+pub mod Lanes

@@ -12,6 +12,7 @@ use word::small0;
 use word::small1;
 use word::word_at;
 
+mod lanes;
 mod word;
 
 // The constants of section 4.2.2.
@@ -94,16 +95,17 @@ pub struct State {
     pub h: u32,
 }
 
-// One round, with the constant `k` and the word `w` of the schedule.
+// One round, with the constant `k` and the word `w` of the schedule. What has waited longest is added first, and the
+// three rotates of `e`, which the round before made last, at the end.
 fn round(s: State, k: u32, w: u32) -> State
     ensures { λ r. ⌜ r ≡ Fips.round k w s ⌝ }
 {
     let t1 = wrapping_add_u32(
         wrapping_add_u32(
-            wrapping_add_u32(wrapping_add_u32(s.h, big1(s.e)), ch(s.e, s.f, s.g)),
-            k,
+            wrapping_add_u32(s.h, wrapping_add_u32(k, w)),
+            ch(s.e, s.f, s.g),
         ),
-        w,
+        big1(s.e),
     );
     let t2 = wrapping_add_u32(big0(s.a), maj(s.a, s.b, s.c));
     State {
@@ -218,6 +220,20 @@ fn compress_at(s: State, m: &[u8], at: usize) -> State
     added(s, all_rounds(loaded(m, at), s))
 }
 
+// Blocks of `m` from `from` on, worked into `s` eight at a time; fewer than eight are left.
+fn eights_from(s: State, m: &[u8], from: usize) -> State
+    requires { ⌜ from ≤ length (now m) ⌝ }
+    ensures { λ r. ⌜ r ≡ Fips.blocks ((length (now (m .entry)) - from) / 512 * 8) s (drop from (now (m .entry))) ⌝ }
+{
+    let mut v = s;
+    let mut at = from;
+    while 512 <= m.len() - at {
+        v = lanes::eight_at(v, m, at);
+        at += 512;
+    }
+    v
+}
+
 // Every whole block of `m` from `from` on, worked into `s`.
 fn blocks_from(s: State, m: &[u8], from: usize) -> State
     requires { ⌜ from ≤ length (now m) ⌝ }
@@ -246,5 +262,6 @@ pub fn blocks(s: State, m: &[u8], from: usize) -> State
     if m.len() < from {
         return s;
     }
-    blocks_from(s, m, from)
+    let v = eights_from(s, m, from);
+    blocks_from(v, m, from + (m.len() - from) / 512 * 512)
 }

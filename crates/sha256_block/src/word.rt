@@ -19,22 +19,18 @@ pub fn maj(x: u32, y: u32, z: u32) -> u32
     ((x ^ y) & (y ^ z)) ^ y
 }
 
-// Rotates by 2, 13 and 22, each made from the one before: 2 + 11 is 13, and 9 more is 22.
+// Rotates by 2, 13 and 22.
 pub fn big0(x: u32) -> u32
     ensures { λ r. ⌜ r ≡ Σ₀ x ⌝ }
 {
-    let a = ((x >> 9) | (x << 23)) ^ x;
-    let b = ((a >> 11) | (a << 21)) ^ x;
-    (b >> 2) | (b << 30)
+    ((x >> 2) | (x << 30)) ^ ((x >> 13) | (x << 19)) ^ ((x >> 22) | (x << 10))
 }
 
-// Rotates by 6, 11 and 25, in the same way.
+// Rotates by 6, 11 and 25.
 pub fn big1(x: u32) -> u32
     ensures { λ r. ⌜ r ≡ Σ₁ x ⌝ }
 {
-    let a = ((x >> 14) | (x << 18)) ^ x;
-    let b = ((a >> 5) | (a << 27)) ^ x;
-    (b >> 6) | (b << 26)
+    ((x >> 6) | (x << 26)) ^ ((x >> 11) | (x << 21)) ^ ((x >> 25) | (x << 7))
 }
 
 // Rotates by 7 and 18 and a shift by 3.
@@ -49,6 +45,20 @@ pub fn small1(x: u32) -> u32
     ensures { λ r. ⌜ r ≡ σ₁ x ⌝ }
 {
     ((x >> 17) | (x << 15)) ^ ((x >> 19) | (x << 13)) ^ (x >> 10)
+}
+
+// The same as `small0`, by shifts alone, for words that are made four at a time: of four words there is no rotate.
+pub fn shifts0(x: u32) -> u32
+    ensures { λ r. ⌜ r ≡ σ₀ x ⌝ }
+{
+    ((x >> 3) ^ (x >> 7) ^ (x >> 18)) ^ ((x << 25) ^ (x << 14))
+}
+
+// The same as `small1`, by shifts alone.
+pub fn shifts1(x: u32) -> u32
+    ensures { λ r. ⌜ r ≡ σ₁ x ⌝ }
+{
+    ((x >> 10) ^ (x >> 17) ^ (x >> 19)) ^ ((x << 15) ^ (x << 13))
 }
 
 // The word of four bytes, the highest first.
