@@ -1,7 +1,7 @@
 -- Arm by arm, what the callee gave.
 use borrow.Author.Needs.{needs}
-use Rattle.effect.proofs.keys_after.Statement.{statement}
-use Rattle.effect.proofs.keys_after.Tie as tie
+use Rattle.set_key.proofs.keys_after.Statement.{statement}
+use Rattle.set_key.proofs.keys_after.Tie as tie
 
 returns : tie.Need-returns
 returns c = rw (c .enum-told .given .1)

@@ -1,7 +1,7 @@
 -- Arm by arm, what the callee gave.
 use borrow.Author.Needs.{needs}
-use Rattle.effect.proofs.put_result.Statement.{statement}
-use Rattle.effect.proofs.put_result.Tie as tie
+use Rattle.result.proofs.put_result.Statement.{statement}
+use Rattle.result.proofs.put_result.Tie as tie
 
 returns : tie.Need-returns
 returns c = rw (c .before .before .before .before .before .before .before .o .given .1, c .before .before .read-extent .ensures)

@@ -1,8 +1,8 @@
 -- Head, result and digest as their functions gave them.
 use borrow.Author.Tests.{eq-eqb, ne-eqb}
 use borrow.Author.Needs.{needs}
-use Rattle.effect.proofs.put_reply.Statement.{statement}
-use Rattle.effect.proofs.put_reply.Tie as tie
+use Rattle.sealed_reply.proofs.put_reply.Statement.{statement}
+use Rattle.sealed_reply.proofs.put_reply.Tie as tie
 
 returns : tie.Need-returns
 returns c =

@@ -11,8 +11,8 @@ use borrow.Author.Tests.{not-true, not-false, leb-true}
 use Rattle.digest.specs.Hmac.{hmac}
 use Rattle.digest.specs.Laws.{length-hmac}
 use borrow.Author.Needs.{needs}
-use Rattle.effect.proofs.seal.Statement.{statement}
-use Rattle.effect.proofs.seal.Tie as tie
+use Rattle.sealed_reply.proofs.seal.Statement.{statement}
+use Rattle.sealed_reply.proofs.seal.Tie as tie
 
 room : (t : tie.Else1) → let a = t .before .before .before .args in a .n + 32 ≤ length (a .reply .now)
 room t =
