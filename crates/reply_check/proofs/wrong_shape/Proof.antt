@@ -5,9 +5,9 @@ use lib.ListN.{length}
 use lib.Seq.{length-take-le}
 use borrow.Author.Needs.{needs}
 use Rattle.rules.specs.Operations.{replyLength}
-use Rattle.client.specs.Laws.{shape-other, shape-same, eight-within}
-use Rattle.client.proofs.rows.wrong_shape.Statement.{statement}
-use Rattle.client.proofs.rows.wrong_shape.Tie as tie
+use Rattle.reply_check.specs.Laws.{shape-other, shape-same, eight-within}
+use Rattle.reply_check.proofs.wrong_shape.Statement.{statement}
+use Rattle.reply_check.proofs.wrong_shape.Tie as tie
 
 returns : tie.Need-returns
 returns c =

@@ -8,10 +8,10 @@ use borrow.Author.Needs.{needs}
 use Rattle.rules.specs.declared.Request.{Request}
 use Rattle.rules.specs.Operations.{resultLength}
 use Rattle.fields.specs.Records.{requestOf}
-use Rattle.client.specs.Rows.{wrongShape}
-use Rattle.client.specs.Laws.{earlyRow, check-early, short-result, wrongDigest, check-shape, check-plain, check-sealed, shape-length, sealed-length}
-use Rattle.client.proofs.rows.check_row.Statement.{statement}
-use Rattle.client.proofs.rows.check_row.Tie as tie
+use Rattle.reply_check.specs.Shape.{wrongShape}
+use Rattle.reply_check.specs.Laws.{earlyRow, check-early, short-result, wrongDigest, check-shape, check-plain, check-sealed, shape-length, sealed-length}
+use Rattle.reply_check.proofs.check_row.Statement.{statement}
+use Rattle.reply_check.proofs.check_row.Tie as tie
 
 -- rows 26 and 28
 early : (t : tie.After-pick2) → let a = t .before .before .before .before .before .before .before .before .before .args in

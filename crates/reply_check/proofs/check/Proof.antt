@@ -10,10 +10,10 @@ use Rattle.lemmas.specs.Rows.{firstRow}
 use Rattle.rules.specs.Client.{checkRows}
 use Rattle.rules.specs.Operations.{resultLength}
 use Rattle.fields.specs.Records.{requestOf}
-use Rattle.client.specs.Met.{CheckMet}
-use Rattle.client.specs.Laws.{check-end, check-granted, check-refused}
-use Rattle.client.proofs.check.Statement.{statement}
-use Rattle.client.proofs.check.Tie as tie
+use Rattle.reply_check.specs.Met.{CheckMet}
+use Rattle.reply_check.specs.Laws.{check-end, check-granted, check-refused}
+use Rattle.reply_check.proofs.check.Statement.{statement}
+use Rattle.reply_check.proofs.check.Tie as tie
 
 -- no row applies
 zero : (t : tie.Then1) → let a = t .before .before .before .before .before .before .args in firstRow (checkRows (a .credential .now) (a .request .now) (a .key .now) (a .reply .now)) ≡ 0

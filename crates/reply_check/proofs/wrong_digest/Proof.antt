@@ -9,8 +9,8 @@ use lib.Seq.{length-take-le}
 use borrow.Author.Needs.{needs}
 use Rattle.digest.specs.Hmac.{hmac}
 use Rattle.lemmas.specs.Lists.{part, same}
-use Rattle.client.proofs.rows.wrong_digest.Statement.{statement}
-use Rattle.client.proofs.rows.wrong_digest.Tie as tie
+use Rattle.reply_check.proofs.wrong_digest.Statement.{statement}
+use Rattle.reply_check.proofs.wrong_digest.Tie as tie
 
 slice-aggregate-of3 : tie.Need-slice-aggregate-of3
 slice-aggregate-of3 c = let a = c .before .before .before .before .before .args in sym (length-take-le (a .n) (a .reply .now) (omega arith))
