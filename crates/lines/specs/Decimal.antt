@@ -11,7 +11,7 @@ use lib.ListN.{length, take, drop, set, length-append}
 use lib.Seq.{set-split, drop-at, length-take-le}
 use borrow.Author.Tests.{lt-ltb, le-ltb, leb-true}
 use Rattle.rules.specs.Program.{digits, decimal, printed}
-use Rattle.record.specs.Text.{placeAfter}
+use Rattle.lines.specs.Text.{placeAfter}
 
 -- ---- digits, the last one apart
 pub digits-one : (f n : ℕ) → n < 10 → digits (suc f) n ≡ (48 + n) ∷ []

@@ -3,10 +3,10 @@ use mathlib.Core.Path.{subst, _∙_}
 use mathlib.Core.List.{List, append-nil}
 use Prim.Native.Nat.{ℕ}
 use borrow.Author.Needs.{needs}
-use Rattle.record.specs.Text.{TextPut}
+use Rattle.lines.specs.Text.{TextPut}
 use Rattle.rules.specs.Program.{decimal}
-use Rattle.record.proofs.put_decimal.Statement.{statement}
-use Rattle.record.proofs.put_decimal.Tie as tie
+use Rattle.lines.proofs.put_decimal.Statement.{statement}
+use Rattle.lines.proofs.put_decimal.Tie as tie
 
 returns : tie.Need-returns
 returns c =

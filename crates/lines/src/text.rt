@@ -5,7 +5,7 @@ ghost use Prim.Native.Nat.{_+_, _≤_, _<_};
 ghost use lib.Dec.{leb};
 ghost use lib.ListN.{length};
 ghost use Rattle.rules.specs.Program.{decimal, printed};
-ghost use Rattle.record.specs.Text.{textOf, placeAfter, TextPut};
+ghost use Rattle.lines.specs.Text.{textOf, placeAfter, TextPut};
 
 // The text is the bytes from place `from` on. The longest line has 63.
 pub struct Text {

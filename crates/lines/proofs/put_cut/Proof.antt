@@ -3,9 +3,9 @@ use mathlib.Core.Path.{subst}
 use mathlib.Core.List.{List}
 use Prim.Native.Nat.{ℕ}
 use borrow.Author.Needs.{needs}
-use Rattle.record.specs.Text.{TextPut}
-use Rattle.record.proofs.put_cut.Statement.{statement}
-use Rattle.record.proofs.put_cut.Tie as tie
+use Rattle.lines.specs.Text.{TextPut}
+use Rattle.lines.proofs.put_cut.Statement.{statement}
+use Rattle.lines.proofs.put_cut.Tie as tie
 
 returns : tie.Need-returns
 returns c =

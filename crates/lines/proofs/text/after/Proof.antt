@@ -3,8 +3,8 @@ use Prim.Native.Nat.{_+_}
 use borrow.Author.Tests.{le-leb, lt-leb}
 use native.Mathlib.Omega.{arith}
 use borrow.Author.Needs.{needs}
-use Rattle.record.proofs.text.after.Statement.{statement}
-use Rattle.record.proofs.text.after.Tie as tie
+use Rattle.lines.proofs.text.after.Statement.{statement}
+use Rattle.lines.proofs.text.after.Tie as tie
 
 returns : tie.Need-returns
 returns c = let a = c .before .args in rw (lt-leb (a .at + a .n) (a .len) (omega arith))

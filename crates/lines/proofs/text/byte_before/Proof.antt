@@ -5,9 +5,9 @@ use Prim.Native.Nat.{ℕ, suc, _-_}
 use native.Mathlib.Omega.{arith}
 use lib.ListN.{length, drop}
 use borrow.Author.Needs.{needs}
-use Rattle.record.specs.Decimal.{stored-before}
-use Rattle.record.proofs.text.byte_before.Statement.{statement}
-use Rattle.record.proofs.text.byte_before.Tie as tie
+use Rattle.lines.specs.Decimal.{stored-before}
+use Rattle.lines.proofs.text.byte_before.Statement.{statement}
+use Rattle.lines.proofs.text.byte_before.Tie as tie
 
 returns : tie.Need-returns
 returns c =

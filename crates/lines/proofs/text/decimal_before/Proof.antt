@@ -6,9 +6,9 @@ use native.Mathlib.Omega.{arith}
 use lib.ListN.{length, drop, set, length-set}
 use borrow.Author.Needs.{needs}
 use Rattle.rules.specs.Program.{digits}
-use Rattle.record.specs.Decimal.{digit-stored, digit-stored-first, digits-left}
-use Rattle.record.proofs.text.decimal_before.Statement.{statement}
-use Rattle.record.proofs.text.decimal_before.Tie as tie
+use Rattle.lines.specs.Decimal.{digit-stored, digit-stored-first, digits-left}
+use Rattle.lines.proofs.text.decimal_before.Statement.{statement}
+use Rattle.lines.proofs.text.decimal_before.Tie as tie
 
 -- of twenty digits, as many are left as from place first - 19 up to i
 abbrev left : ℕ → ℕ → ℕ

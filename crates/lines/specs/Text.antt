@@ -6,7 +6,7 @@ use Prim.Native.Nat.{ℕ, _+_}
 use lib.Dec.{leb}
 use lib.ListN.{length, drop}
 use Rattle.octets.specs.Numbers.{bytesPut}
-use Rattle.record.specs.declared.text.Text.{Text}
+use Rattle.lines.specs.declared.text.Text.{Text}
 
 -- the bytes of a text that is made from its end to its start
 abbrev pub textOf : Text → List ℕ

@@ -7,9 +7,9 @@ use lib.ListN.{length, take, drop, length-drop}
 use lib.Seq.{take-all}
 use borrow.Author.Needs.{needs}
 use Rattle.octets.specs.Numbers.{bytesPut}
-use Rattle.record.specs.Text.{placeAfter}
-use Rattle.record.proofs.text.put.Statement.{statement}
-use Rattle.record.proofs.text.put.Tie as tie
+use Rattle.lines.specs.Text.{placeAfter}
+use Rattle.lines.proofs.text.put.Statement.{statement}
+use Rattle.lines.proofs.text.put.Tie as tie
 
 part-copy-to-end : tie.Need-part-copy-to-end
 part-copy-to-end c =
