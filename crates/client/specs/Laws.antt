@@ -19,7 +19,8 @@ use Rattle.rules.specs.declared.Request.{Request}
 use Rattle.rules.specs.Client.{badRecords, build, buildRows, frameOf, issue, issueRows, recordFaults}
 use Rattle.rules.specs.Frame.{covered, credentialBytes, credentialNumbers, credentialWidths, requestAt}
 use Rattle.octets.specs.Numbers.{bytesPut}
-use Rattle.fields.specs.Records.{credentialPut, requestOf}
+use Rattle.fields.specs.Records.{requestOf}
+use Rattle.credential_bytes.specs.Put.{credentialPut}
 use Rattle.client.specs.declared.Built.{Built}
 use Rattle.client.specs.declared.Issued.{Issued}
 use Rattle.client.specs.Met.{BuildMet, IssueMet}

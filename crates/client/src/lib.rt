@@ -26,7 +26,7 @@ pub fn issue(fields: rules::Credential, key: &[u8], space: &mut [u8]) -> Issued
         let zeros = [0u8; 32];
         return Issued { row, key: zeros };
     }
-    fields::put_credential(fields, space);
+    credential_bytes::put_credential(fields, space);
     let secret = mac::of(key, &space[..36]);
     Issued {
         row: 0,

@@ -1,11 +1,11 @@
--- `fields::layout::put_credential_at` meets its contract: widths and numbers are the credential's layout.
+-- `credential_bytes::put_credential_at` meets its contract: widths and numbers are the credential's layout.
 use mathlib.Core.Path.{refl}
 use native.Mathlib.Omega.{arith}
 use borrow.Author.Needs.{needs}
 use Rattle.lemmas.specs.BigEndian.{layoutSize}
 use Rattle.rules.specs.Frame.{credentialBytes}
-use Rattle.fields.proofs.layout.put_credential_at.Statement.{statement}
-use Rattle.fields.proofs.layout.put_credential_at.Tie as tie
+use Rattle.credential_bytes.proofs.put_credential_at.Statement.{statement}
+use Rattle.credential_bytes.proofs.put_credential_at.Tie as tie
 
 put-fields-requires : tie.Need-put-fields-requires
 unfolding layoutSize

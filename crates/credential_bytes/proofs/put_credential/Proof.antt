@@ -1,8 +1,8 @@
--- `fields::put_credential` meets its contract, by whether the bytes fit.
+-- `credential_bytes::put_credential` meets its contract, by whether the bytes fit.
 use borrow.Author.Needs.{needs}
 use borrow.Author.Tests.{le-leb, lt-leb}
-use Rattle.fields.proofs.put_credential.Statement.{statement}
-use Rattle.fields.proofs.put_credential.Tie as tie
+use Rattle.credential_bytes.proofs.put_credential.Statement.{statement}
+use Rattle.credential_bytes.proofs.put_credential.Tie as tie
 
 returns : tie.Need-returns
 returns c = rw (lt-leb _ _ (c .if1 .taken))

@@ -1,4 +1,4 @@
--- `fields::layout::put_fields` meets its contract. The loop's invariant: the fields passed are written, one splice of them all.
+-- `credential_bytes::put_fields` meets its contract. The loop's invariant: the fields passed are written, one splice of them all.
 use mathlib.Core.Path.{_≡_, refl, sym, ap, _∙_}
 use mathlib.Core.List.{List, _++_}
 use Prim.Native.Nat.{ℕ, _+_, _-_, _≤_, _<_}
@@ -11,8 +11,8 @@ use borrow.Author.Tests.{le-leb}
 use Rattle.lemmas.specs.Lists.{splice}
 use Rattle.lemmas.specs.BigEndian.{bigEndian, layoutSize, encode, length-bigEndian, length-encode}
 use Rattle.lemmas.specs.Layout.{splice-none, splice-after-size, encode-snoc, layout-snoc, layout-take}
-use Rattle.fields.proofs.layout.put_fields.Statement.{statement}
-use Rattle.fields.proofs.layout.put_fields.Tie as tie
+use Rattle.credential_bytes.proofs.put_fields.Statement.{statement}
+use Rattle.credential_bytes.proofs.put_fields.Tie as tie
 
 abbrev Inv-loop : tie.InvT-loop
 Inv-loop s₀ widths numbers at₀ i₀ s at i =
