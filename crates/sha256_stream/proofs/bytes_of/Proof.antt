@@ -5,9 +5,9 @@ use native.Mathlib.Omega.{arith}
 use lib.ListN.{length, take, length-set}
 use lib.Seq.{take-all}
 use borrow.Author.Needs.{needs}
-use Rattle.digest.proofs.Finish.{joined, joined-step, joined-bytes}
-use Rattle.digest.proofs.hash.bytes_of.Statement.{statement}
-use Rattle.digest.proofs.hash.bytes_of.Tie as tie
+use Rattle.sha256_stream.proofs.Padding.{joined, joined-step, joined-bytes}
+use Rattle.sha256_stream.proofs.bytes_of.Statement.{statement}
+use Rattle.sha256_stream.proofs.bytes_of.Tie as tie
 
 abbrev Inv-loop : tie.InvT-loop
 Inv-loop words out₀ i₀ out i = (i ≤ 8) × (length out ≡ 32) × (take (4 * i) out ≡ joined (take i words))

@@ -1,4 +1,4 @@
-// A hash that takes its message part by part: the words so far, the bytes of the block that is not full yet, and the
+// SHA-256 (FIPS 180-4) of a message taken part by part, of any length: the words so far, the bytes of the block that is not full yet, and the
 // count of all bytes. Whole blocks are read straight from the part lent; only the ends of parts are copied.
 ghost use mathlib.Core.Path.{_≡_};
 ghost use mathlib.Core.List.{List, [], _∷_, _++_};
@@ -7,7 +7,7 @@ ghost use lib.ListN.{length, drop, take, replicate};
 ghost use lib.Seq.{paste};
 ghost use Rattle.lemmas.specs.BigEndian.{bigEndian};
 ghost use Rattle.sha256_block.specs.Sha256.{bytes, sha256};
-ghost use Rattle.digest.specs.Stream.{Absorbed};
+ghost use Rattle.sha256_stream.specs.Stream.{Absorbed};
 use sha256_block::State;
 use sha256_block::blocks;
 use sha256_block::compress;
@@ -39,7 +39,7 @@ fn bytes_of(s: State) -> [u8; 32]
 }
 
 // `pending` with `count` bytes of `s`, from `at` on, put after its first `used`.
-pub(crate) fn stashed(pending: [u8; 64], used: usize, s: &[u8], at: usize, count: usize) -> [u8; 64]
+fn stashed(pending: [u8; 64], used: usize, s: &[u8], at: usize, count: usize) -> [u8; 64]
     requires { ⌜ (used + count ≤ 64) × (at + count ≤ length (now s)) ⌝ }
     ensures { λ r. ⌜ r ≡ paste pending used (drop at (now (s .entry))) count ⌝ }
 {

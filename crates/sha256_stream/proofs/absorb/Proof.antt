@@ -4,10 +4,10 @@ use Prim.Native.Nat.{_-_, _%_, _/_}
 use native.Mathlib.Omega.{arith}
 use lib.ListN.{length, drop}
 use Rattle.sha256_block.specs.Sha256.{blocks}
-use Rattle.digest.proofs.Stream.{absorbed-short, absorbed-long}
+use Rattle.sha256_stream.proofs.Stream.{absorbed-short, absorbed-long}
 use borrow.Author.Needs.{needs}
-use Rattle.digest.proofs.hash.absorb.Statement.{statement}
-use Rattle.digest.proofs.hash.absorb.Tie as tie
+use Rattle.sha256_stream.proofs.absorb.Statement.{statement}
+use Rattle.sha256_stream.proofs.absorb.Tie as tie
 
 returns : tie.Need-returns
 returns c m a =

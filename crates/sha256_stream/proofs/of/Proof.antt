@@ -1,8 +1,8 @@
 -- The digest of a message taken in one part.
 use mathlib.Core.List.{[]}
 use borrow.Author.Needs.{needs}
-use Rattle.digest.proofs.hash.of.Statement.{statement}
-use Rattle.digest.proofs.hash.of.Tie as tie
+use Rattle.sha256_stream.proofs.of.Statement.{statement}
+use Rattle.sha256_stream.proofs.of.Tie as tie
 
 returns : tie.Need-returns
 returns c = c .finish .ensures _ (c .before .absorb .ensures [] (c .before .before .start .ensures))

@@ -7,8 +7,8 @@ use Prim.Native.Nat.{_≤_, _<_, _-_, _+_}
 use native.Mathlib.Omega.{arith}
 use lib.ListN.{length, take, set, replicate, length-set}
 use Rattle.lemmas.specs.Fill.{fill-step, fill-none}
-use Rattle.digest.proofs.hash.marked.Statement.{statement}
-use Rattle.digest.proofs.hash.marked.Tie as tie
+use Rattle.sha256_stream.proofs.marked.Statement.{statement}
+use Rattle.sha256_stream.proofs.marked.Tie as tie
 
 abbrev Inv-loop : tie.InvT-loop
 Inv-loop used end p₀ i₀ p i =

@@ -6,10 +6,10 @@ use native.Mathlib.Omega.{arith}
 use lib.ListN.{length, take}
 use Rattle.lemmas.specs.BigEndian.{bigEndian}
 use Rattle.sha256_block.specs.Sha256.{bytes, compress}
-use Rattle.digest.proofs.Finish.{finish-short, finish-long}
+use Rattle.sha256_stream.proofs.Padding.{finish-short, finish-long}
 use borrow.Author.Needs.{needs}
-use Rattle.digest.proofs.hash.finish.Statement.{statement}
-use Rattle.digest.proofs.hash.finish.Tie as tie
+use Rattle.sha256_stream.proofs.finish.Statement.{statement}
+use Rattle.sha256_stream.proofs.finish.Tie as tie
 
 returns : tie.Need-returns
 returns c m a =

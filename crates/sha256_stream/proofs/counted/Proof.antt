@@ -2,8 +2,8 @@
 use Rattle.lemmas.specs.BigEndian.{bigEndian, digit}
 use Rattle.lemmas.specs.Fill.{sets-end}
 use borrow.Author.Needs.{needs}
-use Rattle.digest.proofs.hash.counted.Statement.{statement}
-use Rattle.digest.proofs.hash.counted.Tie as tie
+use Rattle.sha256_stream.proofs.counted.Statement.{statement}
+use Rattle.sha256_stream.proofs.counted.Tie as tie
 
 returns : tie.Need-returns
 unfolding bigEndian digit

@@ -6,8 +6,8 @@ use mathlib.Core.Path.{_≡_, ap, _∙_}
 use Prim.Native.Nat.{_≤_, _<_, _-_, _+_}
 use native.Mathlib.Omega.{arith}
 use lib.ListN.{length, drop, set, getD, length-set, length-drop}
-use Rattle.digest.proofs.hash.stashed.Statement.{statement}
-use Rattle.digest.proofs.hash.stashed.Tie as tie
+use Rattle.sha256_stream.proofs.stashed.Statement.{statement}
+use Rattle.sha256_stream.proofs.stashed.Tie as tie
 
 abbrev Inv-loop : tie.InvT-loop
 Inv-loop used s at count p₀ i₀ p i = (i ≤ count) × (length p ≡ 64) × (p ≡ paste p₀ used (drop at s) i)

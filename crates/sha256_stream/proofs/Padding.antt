@@ -10,10 +10,10 @@ use lib.Seq.{take-suc, take-at, drop-at, length-take-le}
 use Rattle.lemmas.specs.BigEndian.{bigEndian, digit, length-bigEndian}
 use Rattle.lemmas.specs.Fill.{sets-four}
 use Rattle.sha256_block.specs.declared.State.{State}
-use Rattle.digest.specs.declared.hash.Hash.{Hash}
+use Rattle.sha256_stream.specs.declared.Hash.{Hash}
 use Rattle.sha256_block.specs.Sha256.{compress, blocks, padding, pad, H₀, bytes, sha256}
-use Rattle.digest.specs.Stream.{Absorbed}
-use Rattle.digest.proofs.Stream.{blocks-on}
+use Rattle.sha256_stream.specs.Stream.{Absorbed}
+use Rattle.sha256_stream.proofs.Stream.{blocks-on}
 
 -- ---- the padding, by cases
 

@@ -8,9 +8,9 @@ use lib.ListN.{length, take, drop, length-append, length-drop}
 use lib.Seq.{drop-drop, drop-append-le, take-append-le, take-append-add, drop-append-add, take-all, take-at}
 use lib.Seq.{length-take-le, take-length, paste, take-paste}
 use Rattle.sha256_block.specs.declared.State.{State}
-use Rattle.digest.specs.declared.hash.Hash.{Hash}
+use Rattle.sha256_stream.specs.declared.Hash.{Hash}
 use Rattle.sha256_block.specs.Sha256.{compress, blocks, H₀}
-use Rattle.digest.specs.Stream.{Absorbed}
+use Rattle.sha256_stream.specs.Stream.{Absorbed}
 use Rattle.sha256_block.proofs.Compression.{blocks-suc}
 
 -- ---- blocks

@@ -1,8 +1,8 @@
 -- No byte is taken: the fields are those of the initial hash value.
 use mathlib.Core.Path.{refl}
 use Rattle.sha256_block.specs.Sha256.{blocks, H₀}
-use Rattle.digest.proofs.hash.start.Statement.{statement}
-use Rattle.digest.proofs.hash.start.Tie as tie
+use Rattle.sha256_stream.proofs.start.Statement.{statement}
+use Rattle.sha256_stream.proofs.start.Tie as tie
 
 returns : tie.Need-returns
 unfolding blocks H₀
