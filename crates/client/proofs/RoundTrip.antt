@@ -1,7 +1,5 @@
--- Demand 2 over the code's own contracts: what `build` wrote, `wire::parse` reads as the same fields; and `check`
--- accepts the reply that
--- the gate's rules give to a built frame, with the operation's result. From `BuildMet`, `parseOf` and `CheckMet`
--- alone.
+-- Demand 2 over the code's own contracts: what `build` wrote, `wire::parse` reads as the same fields. From `BuildMet`
+-- and `parseOf` alone. The reply's way back: `reply-accepted` (reply_check).
 use mathlib.Core.Path.{_∙_, _≡_, ap, refl, sym}
 use mathlib.Core.Bool.{Bool, cond, false, true}
 use mathlib.Core.List.{List}
@@ -11,17 +9,13 @@ use borrow.Author.Tests.{eqb-true}
 use Rattle.lemmas.specs.Lists.{splice}
 use Rattle.lemmas.specs.Rows.{firstRow}
 use Rattle.lemmas.specs.Tests.{_is_}
-use Rattle.rules.specs.Client as rules
-use Rattle.rules.specs.Client.{build, buildRows, Checked, frameOf}
-use Rattle.rules.specs.Drive.{Drive, quarter, refresh}
-use Rattle.rules.specs.Frame.{credentialAt, fields, operationOf, requestAt}
-use Rattle.rules.specs.Gate.{Call, gate}
-use Rattle.rules.specs.Operations.{credentialKey, result}
+use Rattle.rules.specs.Client.{build, buildRows, frameOf}
+use Rattle.rules.specs.Frame.{credentialAt, requestAt}
 use Rattle.rules.proofs.RoundTrip.{reads-back}
-use Rattle.rules.proofs.RepliesBack.{replies-back}
 use Rattle.wire.specs.Parse.{answer, fieldsOf, frameRow, parseOf}
 use Rattle.client.specs.declared.Built.{Built}
-use Rattle.client.specs.Met.{BuildMet, CheckMet}
+use Rattle.client.specs.Met.{BuildMet}
+use Rattle.rules.specs.Client as rules
 
 build-zero : (a b p k s : List ℕ) → build a b p k s .row ≡ 0 → firstRow (buildRows a b p k s) ≡ 0
 unfolding build
@@ -50,14 +44,3 @@ module _ (a b p k s : List ℕ) (r : Built) (after : List ℕ) (m : BuildMet a b
       let t = reads-back a b p k s accepted in
       ap parseOf wrote
       ∙ rw (t .accepted) (λ i. fieldsOf (t .fields i .cred) (t .fields i .req))
-
--- the reply check's answer to a grant's reply
-pub reply-accepted : (d : Drive) (v : List ℕ) (c : Call) (a b p k s : List ℕ) (row : ℕ) (part : List ℕ)
-    → firstRow (buildRows a b p k s) ≡ 0 → c .frame ≡ frameOf a b p k → gate d v c .row ≡ 0
-    → k ≡ credentialKey (refresh (c .clock) d .tables .keys) (fields (c .frame))
-    → CheckMet a b k (take (gate d v c .length) (gate d v c .space)) row part
-    → (row ≡ 0) × (part ≡ result (operationOf (fields (c .frame))) (quarter (d .size)) (refresh (c .clock) d .tables)
-    (fields (c .frame)) v)
-reply-accepted d v c a b p k s row part g e z h m =
-    let t = replies-back d v c a b p k s g e z h .accepted in
-    (m .row ∙ ap Checked.row t, m .result ∙ ap Checked.result t)

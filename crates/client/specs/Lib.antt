@@ -1,4 +1,4 @@
--- What the three calls of the client end promise, and what their rows say of lengths alone.
+-- What issuer and builder promise, and what their rows say of lengths alone.
 pub mod Met
 pub mod Rows
 pub mod Laws

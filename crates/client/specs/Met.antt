@@ -1,4 +1,4 @@
--- The promises of the three calls: each an equation with document 01's own definition of the call.
+-- The promises of both calls: each an equation with document 01's own definition of the call.
 use mathlib.Core.Path.{_≡_}
 use mathlib.Core.List.{List}
 use Prim.Native.Nat.{ℕ}
@@ -18,8 +18,3 @@ pub record BuildMet (credential request payload k s : List ℕ) (r : Built) (aft
   pub row : r .row ≡ rules.build credential request payload k s .row
   pub length : r .length ≡ rules.build credential request payload k s .length
   pub space : after ≡ rules.build credential request payload k s .space
-
--- the reply check, of both records, the credential key k and the reply s: row n and the result p, a part of the reply
-pub record CheckMet (credential request k s : List ℕ) (n : ℕ) (p : List ℕ) : Type 0 where
-  pub row : n ≡ rules.check credential request k s .row
-  pub result : p ≡ rules.check credential request k s .result

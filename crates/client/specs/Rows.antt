@@ -1,17 +1,14 @@
--- Document 01, rows 26 and 28 to 30, as the code judges them: by the lengths of what is lent.
+-- Document 01, rows 26, 28 and 29, as the code judges them: by the lengths of what is lent.
 use mathlib.Core.Path.{_≡_, refl}
-use mathlib.Core.Bool.{_||_, Bool, not}
+use mathlib.Core.Bool.{_||_, Bool}
 use mathlib.Core.List.{[], _∷_, List}
 use Prim.Native.Nat.{_+_, ℕ}
-use lib.ListN.{length, take}
-use Rattle.lemmas.specs.Lists.{same}
+use lib.ListN.{length}
 use Rattle.lemmas.specs.Rows.{firstRow, line}
 use Rattle.lemmas.specs.Tests.{_isnt_, _under_}
 use Rattle.rules.specs.declared.Credential.{Credential}
-use Rattle.rules.specs.declared.Request.{Request}
 use Rattle.rules.specs.Client.{badRecords, buildRows, issueRows}
 use Rattle.rules.specs.Frame.{credentialMagic, credentialSize, requestAt}
-use Rattle.rules.specs.Operations.{head, headSize, reply, replyLength, resultLength}
 use Rattle.rules.specs.Rows.{leastFrame, outsideCredential}
 
 -- the issuer's row, of a key of k bytes and a space of s
@@ -39,7 +36,3 @@ pub build-row : (credential request payload key space : List ℕ)
     → firstRow (buildRows credential request payload key space) ≡ buildRow credential request (length payload) (length key) (length space)
 unfolding buildRows buildRow
 build-row credential request payload key space = refl
-
--- row 30, but for its digest: the reply is not the head and the length that the request calls for
-unfoldable pub wrongShape : List ℕ → Request → Bool
-wrongShape reply r = not (same (take headSize reply) (head r (resultLength r))) || length reply isnt replyLength r

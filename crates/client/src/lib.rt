@@ -1,6 +1,6 @@
-// The client end of document 01: issuer, frame builder and reply check.
+// The client end of document 01: issuer and frame builder. The check of a reply is `reply_check`.
 ghost use mathlib.Core.Path.{_≡_};
-ghost use Rattle.client.specs.Met.{IssueMet, BuildMet, CheckMet};
+ghost use Rattle.client.specs.Met.{IssueMet, BuildMet};
 use digest::mac;
 
 mod rows;
@@ -26,7 +26,7 @@ pub fn issue(fields: rules::Credential, key: &[u8], space: &mut [u8]) -> Issued
         let zeros = [0u8; 32];
         return Issued { row, key: zeros };
     }
-    fields::put_credential(fields, space);
+    credential_bytes::put_credential(fields, space);
     let secret = mac::of(key, &space[..36]);
     Issued {
         row: 0,
@@ -48,26 +48,5 @@ pub fn build(credential: &[u8], request: &[u8], bytes: &[u8], key: &[u8], space:
     Built {
         row: 0,
         length: 96 + bytes.len(),
-    }
-}
-
-// The result, as the part of `reply` after its eight-byte head, and row 0; or an empty part and the row.
-pub fn check<'a>(
-    credential: &[u8],
-    request: &[u8],
-    key: &[u8],
-    reply: &'a [u8],
-    row: &mut u32,
-) -> &'a [u8]
-    ensures { λ r. ⌜ CheckMet (now (credential .entry)) (now (request .entry)) (now (key .entry)) (now (reply .entry)) (now (row .exit)) (now r) ⌝ }
-{
-    let found = rows::check_row(credential, request, key, reply);
-    *row = found;
-    if found == 0 {
-        let n = reply::result_length(fields::request_of(request)) as usize;
-        let end = 8 + n;
-        &reply[8..end]
-    } else {
-        &reply[..0]
     }
 }

@@ -1,16 +1,12 @@
-// The rows of the client end, 26 and 28 to 30, and the parts of a frame put together.
+// The rows of the issuer and the builder, 26, 28 and 29, and the parts of a frame put together.
 ghost use mathlib.Core.Path.{_≡_};
-ghost use mathlib.Core.Bool.{_||_, not};
 ghost use mathlib.Core.List.{_++_};
 ghost use Prim.Native.Nat.{_+_, _≤_};
-ghost use lib.ListN.{length, take};
-ghost use Rattle.lemmas.specs.Lists.{part, splice, same};
-ghost use Rattle.lemmas.specs.Rows.{firstRow};
+ghost use lib.ListN.{length};
+ghost use Rattle.lemmas.specs.Lists.{splice};
 ghost use Rattle.digest.specs.Hmac.{hmac};
 ghost use Rattle.rules.specs.Frame.{covered};
-ghost use Rattle.rules.specs.Operations.{replyCovered};
-ghost use Rattle.rules.specs.Client.{checkRows};
-ghost use Rattle.client.specs.Rows.{issueRow, lacksRoom, buildRow, wrongShape};
+ghost use Rattle.client.specs.Rows.{issueRow, lacksRoom, buildRow};
 use digest::mac;
 use lemmas::pick;
 
@@ -72,53 +68,4 @@ pub fn join(credential: &[u8], request: &[u8], bytes: &[u8], digest: &[u8; 32], 
     octets::copy_to(space, 36, request);
     octets::copy_to(space, 64, bytes);
     octets::copy_to(space, 64 + bytes.len(), digest);
-}
-
-// Whether a reply has not the head and the length that the request calls for.
-fn wrong_shape(reply: &[u8], q: rules::Request) -> bool
-    ensures { λ r. ⌜ r ≡ wrongShape (now (reply .entry)) q ⌝ }
-{
-    if reply.len() as u64 != reply::reply_length(q) {
-        return true;
-    }
-    let n = reply::result_length(q);
-    let head = reply::reply_head(q, n);
-    !octets::same(&reply[..8], &head)
-}
-
-// Whether a reply's digest, after n bytes of head and result, is another than the one under the credential key.
-fn wrong_digest(credential: &[u8], request: &[u8], key: &[u8], reply: &[u8], n: usize) -> bool
-    requires { ⌜ length (now reply) ≡ n + 32 ⌝ }
-    ensures { λ r. ⌜ r ≡ not (same (part (now (reply .entry)) n 32) (hmac (now (key .entry)) (replyCovered (now (credential .entry)) (now (request .entry)) (take n (now (reply .entry)))))) ⌝ }
-{
-    let right = mac::of3(key, credential, request, &reply[..n]);
-    !octets::same(&reply[n..], &right)
-}
-
-// The reply check's row.
-pub fn check_row(credential: &[u8], request: &[u8], key: &[u8], reply: &[u8]) -> u32
-    ensures { λ r. ⌜ r ≡ firstRow (checkRows (now (credential .entry)) (now (request .entry)) (now (key .entry)) (now (reply .entry))) ⌝ }
-{
-    let q = fields::request_of(request);
-    let n = reply::result_length(q);
-    let r = pick(
-        record_rows::bad_records(credential, request) | (n > 4194304),
-        28,
-        0,
-    );
-    let r = pick(key.len() != 32, 26, r);
-    if r != 0 {
-        return r;
-    }
-    if wrong_shape(reply, q) {
-        return 30;
-    }
-    if q.level != 2 {
-        return 0;
-    }
-    pick(
-        wrong_digest(credential, request, key, reply, 8 + n as usize),
-        30,
-        0,
-    )
 }

@@ -1,3 +1,1 @@
-pub mod Stream
-pub mod Finish
 pub mod Keys

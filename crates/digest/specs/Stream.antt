@@ -1,18 +1,9 @@
--- What the structs of a message taken part by part hold, after the bytes m in all.
-use mathlib.Core.Path.{_≡_}
+-- What the struct of a message taken part by part under a key holds, after the bytes m in all.
 use mathlib.Core.List.{List, _++_}
-use Prim.Native.Nat.{ℕ, _*_, _/_, _%_, _^_}
-use lib.ListN.{length, take, drop}
-use Rattle.digest.specs.declared.hash.Hash.{Hash}
+use Prim.Native.Nat.{ℕ}
+use Rattle.sha256_stream.specs.Stream.{Absorbed}
 use Rattle.digest.specs.declared.mac.Mac.{Mac}
-use Rattle.sha256_block.specs.Sha256.{blocks, H₀}
 use Rattle.digest.specs.Hmac.{xored, keyBlock, ipad, opad}
-
--- a hash: the count of the bytes, the whole blocks worked in, and the bytes after them
-pub record Absorbed (h : Hash) (m : List ℕ) : Type 0 where
-  pub total : h .total ≡ length m % 2 ^ 64
-  pub chain : h .chain ≡ blocks (length m / 64) H₀ m
-  pub pending : take (length m % 64) (h .pending) ≡ drop (length m / 64 * 64) m
 
 -- a keyed hash under the key k
 pub record Keyed (a : Mac) (k m : List ℕ) : Type 0 where

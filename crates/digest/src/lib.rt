@@ -1,9 +1,8 @@
 // SHA-256 (FIPS 180-4) and HMAC (RFC 2104) over lent bytes. `sha256` and `hmac` refuse what is too long, row 27; the
-// modules `hash` and `mac` have no limit, and take a message in one part or in several.
+// module `mac` has no limit, and takes a message in one part or in several. The same for SHA-256 is `sha256_stream`.
 ghost use mathlib.Core.Path.{_≡_};
 ghost use Rattle.digest.specs.Digest.{sha256Answer, hmacAnswer};
 
-pub mod hash;
 pub mod mac;
 
 // The most bytes that a key or a message may have.
@@ -23,7 +22,7 @@ pub fn sha256(message: &[u8]) -> Digest
         let bytes = [0u8; 32];
         return Digest { row: 27, bytes };
     }
-    let bytes = hash::of(message);
+    let bytes = sha256_stream::of(message);
     Digest { row: 0, bytes }
 }
 

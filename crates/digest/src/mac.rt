@@ -4,8 +4,7 @@ ghost use mathlib.Core.List.{List, [], _++_};
 ghost use Prim.Native.Nat.{ℕ};
 ghost use Rattle.digest.specs.Hmac as Rfc;
 ghost use Rattle.digest.specs.Stream.{Keyed};
-use super::hash;
-use super::hash::Hash;
+use sha256_stream::Hash;
 
 // Plain data: `inner` has taken the key with ipad and then the message, `outer` the key with opad.
 pub struct Mac {
@@ -17,12 +16,14 @@ pub struct Mac {
 fn key_block(key: &[u8]) -> [u8; 64]
     ensures { λ r. ⌜ r ≡ Rfc.keyBlock (now (key .entry)) ⌝ }
 {
-    let zeros = [0u8; 64];
+    let mut block = [0u8; 64];
     if key.len() <= 64 {
-        return hash::stashed(zeros, 0, key, 0, key.len());
+        octets::copy_to(&mut block, 0, key);
+        return block;
     }
-    let short = hash::of(key);
-    hash::stashed(zeros, 0, &short, 0, 32)
+    let short = sha256_stream::of(key);
+    octets::copy_to(&mut block, 0, &short);
+    block
 }
 
 // The block with each byte XORed with `c`.
@@ -46,8 +47,8 @@ pub fn start(key: &[u8]) -> Mac
     let k = key_block(key);
     let ipad = xored(k, 0x36);
     let opad = xored(k, 0x5c);
-    let inner = hash::absorb(hash::start(), &ipad);
-    let outer = hash::absorb(hash::start(), &opad);
+    let inner = sha256_stream::absorb(sha256_stream::start(), &ipad);
+    let outer = sha256_stream::absorb(sha256_stream::start(), &opad);
     Mac { inner, outer }
 }
 
@@ -55,7 +56,7 @@ pub fn start(key: &[u8]) -> Mac
 pub fn absorb(a: Mac, part: &[u8]) -> Mac
     ensures { λ r. ⌜ ((k m : List ℕ) → Keyed a k m → Keyed r k (m ++ now (part .entry))) ⌝ }
 {
-    let inner = hash::absorb(a.inner, part);
+    let inner = sha256_stream::absorb(a.inner, part);
     let outer = a.outer;
     Mac { inner, outer }
 }
@@ -64,8 +65,8 @@ pub fn absorb(a: Mac, part: &[u8]) -> Mac
 pub fn finish(a: Mac) -> [u8; 32]
     ensures { λ r. ⌜ ((k m : List ℕ) → Keyed a k m → r ≡ Rfc.hmac k m) ⌝ }
 {
-    let text = hash::finish(a.inner);
-    hash::finish(hash::absorb(a.outer, &text))
+    let text = sha256_stream::finish(a.inner);
+    sha256_stream::finish(sha256_stream::absorb(a.outer, &text))
 }
 
 // The digest of `m` under `key`.

@@ -52,13 +52,13 @@ fn keyed(label: &[u8], key: &[u8], message: &[u8]) {
 // A million times the letter a, a thousand at a time.
 fn million() {
     let part = [97u8; 1000];
-    let mut h = digest::hash::start();
+    let mut h = sha256_stream::start();
     let mut i: usize = 0;
     while i < 1000 {
-        h = digest::hash::absorb(h, &part);
+        h = sha256_stream::absorb(h, &part);
         i += 1;
     }
-    let d = digest::hash::finish(h);
+    let d = sha256_stream::finish(h);
     line(b"sha256 a*1000000", d);
 }
 

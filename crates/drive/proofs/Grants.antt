@@ -58,7 +58,10 @@ use Rattle.wire.specs.declared.ParsedRequest.{ParsedRequest}
 use Rattle.wire.specs.Parse.{operationNumber, firstNumber, secondNumber, requestTold}
 use Rattle.octets.specs.Numbers.{bytesPut, numberPut}
 use Rattle.effect.specs.declared.Site.{Site}
-use Rattle.effect.specs.Effect.{nextOf, objectFrom, resultPut, mediumPut, keysPut, sealPut, resultReply, replyPut}
+use Rattle.effect.specs.Effect.{nextOf, objectFrom, mediumPut}
+use Rattle.result.specs.Result.{resultPut}
+use Rattle.set_key.specs.Keys.{keysPut}
+use Rattle.sealed_reply.specs.Reply.{sealPut, resultReply, replyPut}
 use Rattle.partition.specs.Partition.{raisedTo, createdTo, partitionAfter}
 use Rattle.drive.specs.Site.{siteOf, Room}
 

@@ -32,7 +32,9 @@ use Rattle.keyring.specs.declared.Key.{Key}
 use Rattle.keyring.specs.View.{keyOf, keysOf}
 use Rattle.memory.specs.Memory.{entriesOf}
 use Rattle.effect.specs.declared.Site.{Site}
-use Rattle.effect.specs.Effect.{mediumPut, replyPut, keysPut}
+use Rattle.effect.specs.Effect.{mediumPut}
+use Rattle.set_key.specs.Keys.{keysPut}
+use Rattle.sealed_reply.specs.Reply.{replyPut}
 use Rattle.judge.specs.Judge.{entryOf, judgeRows, placeFor, rules-rows, place-when}
 use Rattle.partition.specs.declared.Partition.{Partition}
 use Rattle.partition.specs.Partition.{partitionOf, partitionAfter}

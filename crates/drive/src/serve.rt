@@ -115,12 +115,12 @@ fn grant(
     let keys = share.keys;
     let s = site_of(share.size, p, c, place);
     let end = frame.len() - 32;
-    effect::put_reply(reply, medium, seen, r, o, s);
+    sealed_reply::put_reply(reply, medium, seen, r, o, s);
     effect::put_bytes(medium, &frame[64..end], o, s);
     Outcome {
         row: 0,
         length: reply::reply_length(r) as usize,
-        keys: effect::keys_after(keys, o, c.slot, c.partition as usize, key, &frame[36..end]),
+        keys: set_key::keys_after(keys, o, c.slot, c.partition as usize, key, &frame[36..end]),
         partition: partition::after(p, o, c.object, s.next, s.place),
     }
 }

@@ -1,2 +1,2 @@
--- What an operation does to reply, medium and keys, and that a grant by the rules does the same.
+-- What an operation does to the medium.
 pub mod Effect

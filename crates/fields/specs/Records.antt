@@ -6,10 +6,9 @@ use Prim.Native.Nat.{ℕ, _+_}
 use lib.Dec.{leb}
 use lib.ListN.{length}
 use Rattle.lemmas.specs.Tests.{_is_}
-use Rattle.lemmas.specs.Lists.{splice}
 use Rattle.rules.specs.declared.Credential.{Credential}
 use Rattle.rules.specs.declared.Request.{Request}
-use Rattle.rules.specs.Frame.{credentialSize, requestSize, credentialBytes, credentialAt, requestAt}
+use Rattle.rules.specs.Frame.{credentialSize, requestSize, credentialAt, requestAt}
 
 -- records of zeros, told where there is no record to read
 abbrev pub noCredential : Credential
@@ -41,7 +40,3 @@ requestIn s i = cond (leb (i + requestSize) (length s)) (requestAt s i) noReques
 -- the request that a record of 28 bytes holds; all zeros where it has another length
 abbrev pub requestOf : List ℕ → Request
 requestOf s = cond (length s is requestSize) (requestAt s 0) noRequest
-
--- s with a credential's 36 bytes at its start, where they fit; else s
-abbrev pub credentialPut : List ℕ → Credential → List ℕ
-credentialPut s c = cond (leb credentialSize (length s)) (splice s 0 (credentialBytes c)) s

@@ -1,6 +1,6 @@
-// The two records of document 01, credential and request, in bytes and as numbers.
+// The two records of document 01, credential and request, read from bytes.
 ghost use mathlib.Core.Path.{_≡_};
-ghost use Rattle.fields.specs.Records.{credentialIn, noRequest, requestIn, requestOf, credentialPut};
+ghost use Rattle.fields.specs.Records.{credentialIn, noRequest, requestIn, requestOf};
 
 mod layout;
 
@@ -71,14 +71,4 @@ pub fn request_of(request: &[u8]) -> rules::Request
         return no_request();
     }
     layout::request_at(request, 0)
-}
-
-// Writes a credential's 36 bytes at the start of space; where they do not fit, nothing is written.
-pub fn put_credential(c: rules::Credential, space: &mut [u8])
-    ensures { λ _. ⌜ now (space .exit) ≡ credentialPut (now (space .entry)) c ⌝ }
-{
-    if space.len() < CREDENTIAL_SIZE {
-        return;
-    }
-    layout::put_credential_at(space, c);
 }

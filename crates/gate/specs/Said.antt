@@ -11,7 +11,7 @@ use borrow.Author.Tests.{le-leb}
 use Rattle.lemmas.specs.Lists.{part, splice}
 use Rattle.rules.specs.Demands.{State, answer, step}
 use Rattle.rules.specs.Program.{recordHead, frameLength, callIn, broken, printed, prints}
-use Rattle.record.specs.Text.{TextPut}
+use Rattle.lines.specs.Text.{TextPut}
 use Rattle.record.specs.Stream.{prints-call}
 
 -- from state s after `calls` calls, the first `taken` bytes of input lead to state s′ after n calls, and print text

@@ -8,7 +8,7 @@ ghost use lib.ListN.{length, drop};
 ghost use Rattle.lemmas.specs.Lists.{part, splice};
 ghost use Rattle.rules.specs.Program.{cut};
 ghost use Rattle.rules.specs.Program.{ended as Program·ended};
-ghost use Rattle.record.specs.Text.{TextPut};
+ghost use Rattle.lines.specs.Text.{TextPut};
 ghost use Rattle.gate.specs.Answered.{stateOf};
 ghost use Rattle.gate.specs.Serving.{NextMet, ServeMet, DrainMet, Held, RoomMet, FetchMet, Ready};
 use drive::Answer;
@@ -131,7 +131,7 @@ fn serve(
         a = drive::gate(d, medium, &input[start..end], w.clock, reply);
         n += 1;
         taken = end;
-        put = record::put_line(out, put, n, a.row, a.length);
+        put = lines::put_line(out, put, n, a.row, a.length);
     }
     let d = a.drive;
     Served {
@@ -224,9 +224,9 @@ fn last_line(out: &mut [u8], ended: bool, calls: u64) -> usize
     ensures { λ r. ⌜ TextPut (now (out .entry)) 0 (cond ended (Program·ended calls) (cut calls)) r (now (out .exit)) ⌝ }
 {
     if ended {
-        record::put_end(out, 0, calls)
+        lines::put_end(out, 0, calls)
     } else {
-        record::put_cut(out, 0, calls)
+        lines::put_cut(out, 0, calls)
     }
 }
 

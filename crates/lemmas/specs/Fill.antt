@@ -7,7 +7,8 @@ use native.Mathlib.Numerals.{add-one}
 use native.Mathlib.Omega.{arith}
 use lib.ListN.{length, length-append, take, drop, set, replicate, length-replicate, replicate-append-replicate}
 use lib.ListN.{drop-of-length-le}
-use lib.Seq.{take-suc-set, take-set-le, take-length, take-at, drop-at, length-take-le, paste, sets, sets-eq}
+use lib.Seq.{take-suc-set, take-set-le, take-at, drop-at, length-take-le, sets, sets-eq}
+use Rattle.lemmas.specs.Lists.{splice}
 
 -- a run that is longer by one
 pub replicate-more : (n v : ℕ) → replicate (n + 1) v ≡ replicate n v ++ v ∷ []
@@ -52,6 +53,6 @@ sets-four p k a b c d h =
     rw (add-one k, e₂, e₃) (ap (take (k + 4)) (sets-eq v p k h) ∙ take-at (take k p ++ v) (drop (k + 4) p) (k + 4) l)
 
 -- a list put at the start of a run
-pub paste-replicate : (k : List ℕ) (n v : ℕ) → length k ≤ n
-    → paste (replicate n v) 0 k (length k) ≡ k ++ replicate (n - length k) v
-paste-replicate k n v h = rw (zero-add (length k), take-length k, drop-replicate (length k) n v h)
+pub splice-replicate : (k : List ℕ) (n v : ℕ) → length k ≤ n → splice (replicate n v) 0 k ≡ k ++ replicate (n - length k) v
+unfolding splice
+splice-replicate k n v h = rw (zero-add (length k), drop-replicate (length k) n v h)

@@ -1,5 +1,3 @@
 pub mod Arrival
 pub mod Arriving
 pub mod Stream
-pub mod Text
-pub mod Decimal

@@ -6,8 +6,8 @@ use lib.ListN.{length}
 use Rattle.lemmas.specs.Rows.{firstRow}
 use Rattle.rules.specs.Client.{check, checkRows}
 use Rattle.rules.specs.Ledger.{start}
-use Rattle.client.specs.Laws.{check-row-is, found-length, found-start, refused-none}
-use Rattle.client.specs.Met.{CheckMet}
+use Rattle.reply_check.specs.Laws.{check-row-is, found-length, found-start, refused-none}
+use Rattle.reply_check.specs.Met.{CheckMet}
 use Rattle.solver.specs.declared.ReplyChecked.{ReplyChecked}
 use Rattle.solver.specs.Told.{checkedOf}
 

@@ -8,8 +8,8 @@ use lib.ListN.{length}
 use lib.Seq.{length-take-le}
 use borrow.Author.Needs.{needs}
 use Rattle.rules.specs.Program.{ended, cut}
-use Rattle.record.specs.Text.{placeAfter}
-use Rattle.record.specs.Decimal.{place-within}
+use Rattle.lines.specs.Text.{placeAfter}
+use Rattle.lines.specs.Decimal.{place-within}
 use Rattle.gate.proofs.finish.Statement.{statement}
 use Rattle.gate.proofs.finish.Tie as tie
 

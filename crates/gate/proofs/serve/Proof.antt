@@ -8,8 +8,8 @@ use native.Mathlib.Omega.{arith}
 use lib.ListN.{length, take, drop}
 use borrow.Author.Needs.{needs}
 use Rattle.rules.specs.Program.{frameLength, callIn, broken, printed}
-use Rattle.record.specs.Text.{placeAfter}
-use Rattle.record.specs.Decimal.{place-within, length-printed}
+use Rattle.lines.specs.Text.{placeAfter}
+use Rattle.lines.specs.Decimal.{place-within, length-printed}
 use Rattle.drive.specs.Met.{GateMet, callOf}
 use Rattle.gate.specs.Answered.{stateOf, answered}
 use Rattle.gate.specs.Said.{Said, said-none, said-call, text-put, frame-lent}

@@ -1,11 +1,11 @@
 -- Three rows, the last first; a request of another length is refused whichever way it is read (`bad-either`).
-use mathlib.Core.Path.{_≡_}
+use mathlib.Core.Path.{refl}
 use mathlib.Core.Bool.{not}
 use lib.Dec.{eqb}
 use borrow.Author.Needs.{needs}
 use Rattle.lemmas.specs.Rows.{firstRow}
 use Rattle.client.specs.Rows.{buildRow}
-use Rattle.client.specs.Laws.{bad-either}
+use Rattle.record_rows.specs.Laws.{bad-either}
 use Rattle.client.proofs.rows.build_row.Statement.{statement}
 use Rattle.client.proofs.rows.build_row.Tie as tie
 
@@ -13,8 +13,16 @@ returns : tie.Need-returns
 unfolding buildRow firstRow
 returns c =
     let a = c .before .before .before .before .before .before .before .before .before .args in
-    let either = bad-either (a .credential .now) (a .request .now) (λ q. not (eqb (q .n) (a .n))) in
-    cc
+    rw (
+      c .pick3 .ensures,
+      c .before .pick2 .ensures,
+      c .before .before .before .bad-records .ensures,
+      c .before .before .before .before .pick .ensures,
+      c .before .before .before .before .before .lacks-room .ensures,
+      c .before .before .before .before .before .before .request-of .ensures,
+      bad-either (a .credential .now) (a .request .now) (λ q. not (eqb (q .n) (a .n))),
+    )
+    refl
 
 pub build-row-spec : {M : Type 1} → statement M
 build-row-spec =

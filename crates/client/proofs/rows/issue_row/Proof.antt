@@ -1,4 +1,5 @@
 -- Three rows, the last first.
+use mathlib.Core.Path.{refl}
 use borrow.Author.Needs.{needs}
 use Rattle.lemmas.specs.Rows.{firstRow}
 use Rattle.client.specs.Rows.{issueRow}
@@ -7,7 +8,9 @@ use Rattle.client.proofs.rows.issue_row.Tie as tie
 
 returns : tie.Need-returns
 unfolding issueRow firstRow
-returns c = cc
+returns c =
+    rw (c .pick3 .ensures, c .before .pick2 .ensures, c .before .before .bad-credential .ensures, c .before .before .before .pick .ensures)
+    refl
 
 pub issue-row-spec : {M : Type 1} → statement M
 issue-row-spec =

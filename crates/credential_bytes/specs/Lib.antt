@@ -1,0 +1,2 @@
+-- A credential put into a lent slice.
+pub mod Put

@@ -1,0 +1,39 @@
+// The lines that the program prints (document 01): one for each call, and a last one.
+mod text;
+
+ghost use mathlib.Core.Path.{_≡_};
+ghost use Rattle.rules.specs.Program.{decimal, printed, ended, cut};
+ghost use Rattle.lines.specs.Text.{TextPut};
+
+// Writes n in decimal into space from place at on, and answers the place after it; where it does not fit, nothing is
+// written and the answer is at. So do all that follow.
+pub fn put_decimal(space: &mut [u8], at: usize, n: u64) -> usize
+    ensures { λ r. ⌜ TextPut (now (space .entry)) at (decimal n) r (now (space .exit)) ⌝ }
+{
+    let t = text::decimal_before(text::blank(), n);
+    text::put(space, at, t)
+}
+
+// The line of a call: its number, the row and the reply's length.
+pub fn put_line(space: &mut [u8], at: usize, n: u64, row: u32, size: usize) -> usize
+    ensures { λ r. ⌜ TextPut (now (space .entry)) at (printed n row size) r (now (space .exit)) ⌝ }
+{
+    let t = text::line(n, row as u64, size as u64);
+    text::put(space, at, t)
+}
+
+// The last line after n calls, where the input has ended behind a record.
+pub fn put_end(space: &mut [u8], at: usize, n: u64) -> usize
+    ensures { λ r. ⌜ TextPut (now (space .entry)) at (ended n) r (now (space .exit)) ⌝ }
+{
+    let t = text::last(b'e', b'n', b'd', n);
+    text::put(space, at, t)
+}
+
+// The last line after n calls, where the input is cut off or goes on with what is no record.
+pub fn put_cut(space: &mut [u8], at: usize, n: u64) -> usize
+    ensures { λ r. ⌜ TextPut (now (space .entry)) at (cut n) r (now (space .exit)) ⌝ }
+{
+    let t = text::last(b'c', b'u', b't', n);
+    text::put(space, at, t)
+}

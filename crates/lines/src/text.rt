@@ -1,0 +1,105 @@
+// A line of text, made from its end to its start: the digits of a number come out last one first.
+ghost use mathlib.Core.Path.{_≡_};
+ghost use mathlib.Core.List.{[], _∷_, _++_};
+ghost use Prim.Native.Nat.{_+_, _≤_, _<_};
+ghost use lib.Dec.{leb};
+ghost use lib.ListN.{length};
+ghost use Rattle.rules.specs.Program.{decimal, printed};
+ghost use Rattle.lines.specs.Text.{textOf, placeAfter, TextPut};
+
+// The text is the bytes from place `from` on. The longest line has 63.
+pub struct Text {
+    pub bytes: [u8; 64],
+    pub from: usize,
+}
+
+// No text yet.
+pub fn blank() -> Text
+    ensures { λ r. ⌜ (textOf r ≡ []) × (r .from ≡ 64) ⌝ }
+{
+    Text {
+        bytes: [0u8; 64],
+        from: 64,
+    }
+}
+
+// The byte b, and then the text.
+pub fn byte_before(t: Text, b: u8) -> Text
+    requires { ⌜ (0 < t .from) × (t .from ≤ 64) ⌝ }
+    ensures { λ r. ⌜ (textOf r ≡ b ∷ textOf t) × (r .from + 1 ≡ t .from) ⌝ }
+{
+    let mut bytes = t.bytes;
+    let from = t.from - 1;
+    bytes[from] = b;
+    Text { bytes, from }
+}
+
+// n in decimal, and then the text.
+pub fn decimal_before(t: Text, n: u64) -> Text
+    requires { ⌜ (20 ≤ t .from) × (t .from ≤ 64) ⌝ }
+    ensures { λ r. ⌜ (textOf r ≡ decimal n ++ textOf t) × (t .from ≤ r .from + 20) × (r .from < t .from) ⌝ }
+{
+    let mut bytes = t.bytes;
+    let mut i = t.from - 1;
+    let mut rest = n;
+    while rest >= 10 {
+        bytes[i] = digit(rest % 10);
+        rest /= 10;
+        i -= 1;
+    }
+    bytes[i] = digit(rest);
+    Text { bytes, from: i }
+}
+
+fn digit(x: u64) -> u8
+    requires { ⌜ x < 10 ⌝ }
+    ensures { λ r. ⌜ r ≡ 48 + x ⌝ }
+{
+    48 + x as u8
+}
+
+// The line of a call.
+pub fn line(n: u64, row: u64, size: u64) -> Text
+    ensures { λ r. ⌜ (textOf r ≡ printed n row size) × (r .from ≤ 64) ⌝ }
+{
+    let a = byte_before(blank(), b'\n');
+    let b = byte_before(decimal_before(a, size), b' ');
+    let c = byte_before(decimal_before(b, row), b' ');
+    decimal_before(c, n)
+}
+
+// A last line: a word of three letters and a number.
+pub fn last(x: u8, y: u8, z: u8, n: u64) -> Text
+    ensures { λ r. ⌜ (textOf r ≡ x ∷ y ∷ z ∷ 32 ∷ (decimal n ++ (10 ∷ []))) × (r .from ≤ 64) ⌝ }
+{
+    let a = decimal_before(byte_before(blank(), b'\n'), n);
+    let b = byte_before(a, b' ');
+    let c = byte_before(b, z);
+    byte_before(byte_before(c, y), x)
+}
+
+// Writes the text into space from place at on, and answers the place after it; where it does not fit, nothing is
+// written and the answer is at.
+pub fn put(space: &mut [u8], at: usize, t: Text) -> usize
+    requires { ⌜ t .from ≤ 64 ⌝ }
+    ensures { λ r. ⌜ TextPut (now (space .entry)) at (textOf t) r (now (space .exit)) ⌝ }
+{
+    let bytes = t.bytes;
+    let from = t.from;
+    let size = 64 - from;
+    octets::copy_to(space, at, &bytes[from..]);
+    after(space.len(), at, size)
+}
+
+// The place after n bytes from place at on, where they lie within len; else at. No sum, so none that wraps.
+fn after(len: usize, at: usize, n: usize) -> usize
+    ensures { λ r. ⌜ r ≡ placeAfter len at n ⌝ }
+{
+    if n > len {
+        return at;
+    }
+    if at > len - n {
+        return at;
+    }
+    at + n
+}

@@ -1,0 +1,2 @@
+-- Demand 2 over the code's own contract.
+pub mod RoundTrip

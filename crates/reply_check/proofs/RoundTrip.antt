@@ -1,0 +1,25 @@
+-- Demand 2 over the code's own contracts: `check` accepts the reply that the gate's rules give to a built frame, with the
+-- operation's result. From `CheckMet` alone.
+use mathlib.Core.Path.{_∙_, _≡_, ap}
+use mathlib.Core.List.{List}
+use Prim.Native.Nat.{ℕ}
+use lib.ListN.{take}
+use Rattle.lemmas.specs.Rows.{firstRow}
+use Rattle.rules.specs.Client.{buildRows, Checked, frameOf}
+use Rattle.rules.specs.Drive.{Drive, quarter, refresh}
+use Rattle.rules.specs.Frame.{fields, operationOf}
+use Rattle.rules.specs.Gate.{Call, gate}
+use Rattle.rules.specs.Operations.{credentialKey, result}
+use Rattle.rules.proofs.RepliesBack.{replies-back}
+use Rattle.reply_check.specs.Met.{CheckMet}
+
+-- the reply check's answer to a grant's reply
+pub reply-accepted : (d : Drive) (v : List ℕ) (c : Call) (a b p k s : List ℕ) (row : ℕ) (part : List ℕ)
+    → firstRow (buildRows a b p k s) ≡ 0 → c .frame ≡ frameOf a b p k → gate d v c .row ≡ 0
+    → k ≡ credentialKey (refresh (c .clock) d .tables .keys) (fields (c .frame))
+    → CheckMet a b k (take (gate d v c .length) (gate d v c .space)) row part
+    → (row ≡ 0) × (part ≡ result (operationOf (fields (c .frame))) (quarter (d .size)) (refresh (c .clock) d .tables)
+    (fields (c .frame)) v)
+reply-accepted d v c a b p k s row part g e z h m =
+    let t = replies-back d v c a b p k s g e z h .accepted in
+    (m .row ∙ ap Checked.row t, m .result ∙ ap Checked.result t)

@@ -1,0 +1,47 @@
+-- Row 0 and the part after the head by `check-granted`, its end inside the reply by `check-end`; or the row and nothing by `check-refused`.
+use mathlib.Core.Path.{_≡_, refl, sym, ap, _∙_, subst}
+use mathlib.Core.List.{List}
+use Prim.Native.Nat.{ℕ, _+_, _-_, _≤_}
+use native.Mathlib.Omega.{arith}
+use lib.ListN.{length, take, drop}
+use borrow.Author.Needs.{needs}
+use Rattle.lemmas.specs.Lists.{part}
+use Rattle.lemmas.specs.Rows.{firstRow}
+use Rattle.rules.specs.Client.{checkRows}
+use Rattle.rules.specs.Operations.{resultLength}
+use Rattle.fields.specs.Records.{requestOf}
+use Rattle.reply_check.specs.Met.{CheckMet}
+use Rattle.reply_check.specs.Laws.{check-end, check-granted, check-refused}
+use Rattle.reply_check.proofs.check.Statement.{statement}
+use Rattle.reply_check.proofs.check.Tie as tie
+
+-- no row applies
+zero : (t : tie.Then1) → let a = t .before .before .before .before .before .before .args in firstRow (checkRows (a .credential .now) (a .request .now) (a .key .now) (a .reply .now)) ≡ 0
+zero t = sym (t .before .check-row .ensures) ∙ t .if1 .taken
+
+-- how long the result is
+long : (t : tie.After-result-length) → let a = t .before .before .before .before .before .before .before .before .args in t .result-length .result ≡ resultLength (requestOf (a .request .now))
+long t = t .result-length .ensures ∙ ap resultLength (t .before .request-of .ensures)
+
+part-result-end : tie.Need-part-result-end
+part-result-end c = let a = c .before .before .before .before .before .before .before .before .args in omega (arith, check-end (a .credential .now) (a .request .now) (a .key .now) (a .reply .now) (zero (c .before .before)), long c)
+
+returns : tie.Need-returns
+unfolding part
+returns c =
+    let a = c .before .before .before .before .before .before .before .before .before .args in
+    let n = c .before .result-length .result in
+    let count : 8 + n - 8 ≡ n = omega arith in
+    rw (c .before .before .before .if1 .taken, count) (check-granted (a .credential .now) (a .request .now) (a .key .now) (a .reply .now) (zero (c .before .before .before)) n (long (c .before)))
+
+returns-2 : tie.Need-returns-2
+returns-2 c =
+    let a = c .before .before .before .before .before .before .before .args in
+    check-refused (a .credential .now) (a .request .now) (a .key .now) (a .reply .now) (c .before .before .check-row .result) (c .before .before .check-row .ensures) (c .before .if1 .left)
+
+pub check-spec : {M : Type 1} → statement M
+check-spec =
+    tie.close
+    (tie.spec
+    (λ c κs. search needs) (λ c κs. search needs) (λ c κs. search needs) (λ c. search needs) (λ c. search needs) (λ c. search needs) (λ c. search needs)
+    part-result-end (λ c. search needs) returns returns-2)

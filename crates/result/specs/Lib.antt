@@ -1,0 +1,2 @@
+-- The result in the reply space.
+pub mod Result

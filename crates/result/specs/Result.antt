@@ -1,0 +1,24 @@
+-- Document 01, "Operations": the result of an operation, whether it fits or not.
+-- s: where it works. m: the medium. r: the reply space.
+use mathlib.Core.Bool.{_&&_, cond}
+use mathlib.Core.List.{List}
+use Prim.Native.Nat.{ℕ, _+_}
+use lib.ListN.{length}
+use lib.Dec.{leb}
+use Rattle.lemmas.specs.Lists.{part, splice}
+use Rattle.octets.specs.Numbers.{numberPut}
+use Rattle.wire.specs.declared.Operation.{Operation}
+use Rattle.wire.specs.declared.Operation.the-variants.{Read, Write, Look, Raise, Create, Delete, SetKey}
+use Rattle.effect.specs.declared.Site.{Site}
+use Rattle.effect.specs.Effect.{objectFrom}
+
+-- the reply space with the result from place 8 on
+abbrev pub resultPut : Operation → Site → List ℕ → List ℕ → List ℕ
+resultPut (Read a b) s m r =
+    cond (leb (objectFrom s + a + b) (length m) && leb (8 + b) (length r)) (splice r 8 (part m (objectFrom s + a) b)) r
+resultPut (Write a b) s m r = r
+resultPut Look s m r = numberPut (numberPut r 8 4 (s .told)) 12 4 (s .version)
+resultPut Raise s m r = numberPut r 8 4 (s .next)
+resultPut (Create number size) s m r = numberPut r 8 4 (s .next)
+resultPut Delete s m r = r
+resultPut (SetKey target) s m r = r

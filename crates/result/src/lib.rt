@@ -1,0 +1,29 @@
+// The result of a granted operation, in the reply. Where it does not fit, nothing is written.
+ghost use mathlib.Core.Path.{_≡_};
+ghost use Rattle.result.specs.Result.{resultPut};
+use effect::Site;
+use wire::Operation;
+
+// The result goes into the reply after its eight-byte head.
+pub fn put_result(reply: &mut [u8], medium: &[u8], o: Operation, s: Site)
+    ensures { λ _. ⌜ now (reply .exit) ≡ resultPut o s (now (medium .entry)) (now (reply .entry)) ⌝ }
+{
+    match o {
+        Operation::Read { offset, length } => {
+            let from = s.base as usize + s.start as usize + offset as usize;
+            extent::read_extent(medium, from, length as usize, reply, 8);
+        }
+        Operation::Write {
+            offset: _,
+            length: _,
+        } => {}
+        Operation::Look => {
+            octets::put(reply, 8, 4, s.told as u64);
+            octets::put(reply, 12, 4, s.version as u64);
+        }
+        Operation::Raise => octets::put(reply, 8, 4, s.next as u64),
+        Operation::Create { number: _, size: _ } => octets::put(reply, 8, 4, s.next as u64),
+        Operation::Delete => {}
+        Operation::SetKey { target: _ } => {}
+    }
+}

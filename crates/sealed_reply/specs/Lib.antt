@@ -1,0 +1,2 @@
+-- The whole reply in its space.
+pub mod Reply

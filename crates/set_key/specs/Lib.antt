@@ -1,0 +1,2 @@
+-- The keys after an operation.
+pub mod Keys

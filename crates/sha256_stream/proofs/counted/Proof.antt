@@ -1,0 +1,19 @@
+-- Eight stores at the end of the block are the eight bytes of the count: sets-end.
+use Rattle.lemmas.specs.BigEndian.{bigEndian, digit}
+use Rattle.lemmas.specs.Fill.{sets-end}
+use borrow.Author.Needs.{needs}
+use Rattle.sha256_stream.proofs.counted.Statement.{statement}
+use Rattle.sha256_stream.proofs.counted.Tie as tie
+
+returns : tie.Need-returns
+unfolding bigEndian digit
+returns c = sets-end (bigEndian 8 (c .args .bits)) (c .args .p) 56 (search needs)
+
+pub counted-spec : {M : Type 1} → statement M
+counted-spec =
+    tie.close
+    (tie.spec
+    (λ c. search needs) (λ c. search needs) (λ c. search needs) (λ c. search needs) (λ c. search needs)
+    (λ c. search needs) (λ c. search needs) (λ c. search needs) (λ c. search needs) (λ c. search needs)
+    (λ c. search needs) (λ c. search needs) (λ c. search needs) (λ c. search needs) (λ c. search needs)
+    (λ c. search needs) returns)

@@ -1,0 +1,2 @@
+-- What a stream holds.
+pub mod Stream
