@@ -1,7 +1,9 @@
-// The client end of document 01: issuer and frame builder. The check of a reply is `reply_check`.
+// The client end of document 01: issuer, frame builder and reply check. The reply check stands in a crate of its own,
+// `reply_check`, and is passed on.
 ghost use mathlib.Core.Path.{_≡_};
 ghost use Rattle.client.specs.Met.{IssueMet, BuildMet};
 use digest::mac;
+pub use reply_check::check;
 
 mod rows;
 

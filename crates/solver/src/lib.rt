@@ -46,7 +46,7 @@ pub extern "C" fn sievelast_check(
     ensures { λ r. ⌜ r ≡ checkedOf (now (credential .entry)) (now (request .entry)) (now (key .entry)) (now (reply .entry)) ⌝ }
 {
     let mut row: u32 = 0;
-    let part = reply_check::check(credential, request, key, reply, &mut row);
+    let part = client::check(credential, request, key, reply, &mut row);
     let length = part.len() as u64;
     let found = row;
     if found == 0 {

@@ -97,7 +97,7 @@ fn send(
     let n = most(built.length, &frame);
     let answer = drive::gate(store, medium, &frame[..n], NOW, &mut reply);
     let m = most(answer.length, &reply);
-    let result = reply_check::check(&credential, &request, &secret, &reply[..m], &mut row);
+    let result = client::check(&credential, &request, &secret, &reply[..m], &mut row);
     say::step(what, answer.row, row, result);
     answer.drive
 }
