@@ -1,101 +1,110 @@
-// Frames, built by the client end.
-use crate::script::Step;
-use crate::terms;
-use crate::terms::Terms;
-use keyring::Keys;
+// Frames, built by the client end from the numbers of a turn.
+ghost use mathlib.Core.Path.{_≡_};
+ghost use lib.ListN.{length};
+use crate::words::A;
+use crate::words::B;
+use crate::words::COUNT;
+use crate::words::END;
+use crate::words::EXPIRY;
+use crate::words::FIRST;
+use crate::words::HOLDER;
+use crate::words::LEAST;
+use crate::words::LEVEL;
+use crate::words::OBJECT;
+use crate::words::PARTITION;
+use crate::words::RIGHTS;
+use crate::words::SLOT;
+use crate::words::TIME;
+use crate::words::VERSION;
+use crate::words::WORD;
+use crate::words::WRITE;
 use rules::Credential;
-use rules::Request;
 
-// The key that is kept, the last frame's length, and the credential key under which it was built.
-pub struct Built {
-    pub kept: [u8; 32],
-    pub length: usize,
-    pub secret: [u8; 32],
+// A number as one byte, two or four: the largest where it is larger.
+pub fn one(x: u64) -> u8 {
+    if x < 256 { x as u8 } else { 255 }
 }
 
-// No frame yet.
-pub fn none_yet() -> Built {
-    Built {
-        kept: [0u8; 32],
-        length: 0,
-        secret: [0u8; 32],
+fn two(x: u64) -> u16 {
+    if x < 65536 { x as u16 } else { 65535 }
+}
+
+pub fn four(x: u64) -> u32 {
+    if x < 0x100000000 {
+        x as u32
+    } else {
+        0xffffffff
     }
 }
 
-// The bytes of the key in a slot; zeros where it was never set.
-pub fn key_bytes(keys: Keys, partition: u8, slot: u8) -> [u8; 32] {
-    let key = keyring::key_in(keys, partition as usize, slot);
-    key.bytes
-}
-
-// With the key kept that is in a slot now.
-pub fn keeping(b: Built, keys: Keys, s: Step) -> Built {
-    let kept = key_bytes(keys, terms::one(s.a), terms::one(s.b));
-    let secret = b.secret;
-    Built {
-        kept,
-        length: b.length,
-        secret,
+fn credential_of(n: [u64; 76]) -> Credential {
+    Credential {
+        magic: 0x4c43,
+        partition: one(n[PARTITION]),
+        slot: one(n[SLOT]),
+        object: four(n[OBJECT]),
+        version: four(n[VERSION]),
+        rights: two(n[RIGHTS]),
+        least: one(n[LEAST]),
+        zero: 0,
+        first: four(n[FIRST]),
+        end: four(n[END]),
+        expiry: n[EXPIRY],
+        holder: four(n[HOLDER]),
     }
 }
 
-// With an empty frame.
-pub fn emptied(b: Built) -> Built {
-    let kept = b.kept;
-    let secret = b.secret;
-    Built {
-        kept,
-        length: 0,
-        secret,
+// B is the line's second number, in a write how many data bytes there are.
+fn b_of(n: [u64; 76], count: usize) -> u64 {
+    if n[WORD] as usize == WRITE {
+        count as u64
+    } else {
+        n[B]
     }
 }
 
-// The key that a frame is built under: 0 the one that the drive has in the credential's slot, 1 the one that is kept, else
-// a stranger's.
-fn signing_key(b: Built, keys: Keys, c: Credential, signer: u64) -> [u8; 32] {
-    if signer == 0 {
-        return key_bytes(keys, c.partition, c.slot);
-    }
-    if signer == 1 {
-        return b.kept;
-    }
-    [9u8; 32]
-}
-
-// A request's 28 bytes.
-fn request_bytes(q: Request) -> [u8; 28] {
+// A request's 28 bytes of its eight numbers, each in as many bytes as its width.
+fn request_bytes(numbers: [u64; 8], widths: [usize; 8]) -> [u8; 28]
+    ensures { λ r. ⌜ 28 ≡ length r ⌝ }
+{
     let mut bytes = [0u8; 28];
-    octets::put(&mut bytes, 0, 2, q.magic as u64);
-    octets::put(&mut bytes, 2, 1, q.operation as u64);
-    octets::put(&mut bytes, 3, 1, q.level as u64);
-    octets::put(&mut bytes, 4, 8, q.time);
-    octets::put(&mut bytes, 12, 4, q.count as u64);
-    octets::put(&mut bytes, 16, 4, q.A as u64);
-    octets::put(&mut bytes, 20, 4, q.B as u64);
-    octets::put(&mut bytes, 24, 4, q.n as u64);
+    let mut at: usize = 0;
+    let mut i: usize = 0;
+    while i < 8 {
+        octets::put(&mut bytes, at, widths[i], numbers[i]);
+        at = std::num::wrapping_add_usize(at, widths[i]);
+        i += 1;
+    }
     bytes
 }
 
-// Writes the frame of a line into space: the credential's issuer and the frame builder are the product's own.
-pub fn build(
-    b: Built,
-    keys: Keys,
-    c: Credential,
-    t: Terms,
-    s: Step,
-    payload: &[u8],
-    space: &mut [u8],
-) -> Built {
+// The line's request, with so many data bytes.
+fn request_of(n: [u64; 76], count: usize) -> [u8; 28]
+    ensures { λ r. ⌜ 28 ≡ length r ⌝ }
+{
+    let b = b_of(n, count);
+    request_bytes(
+        [
+            0x4c52,
+            n[WORD],
+            n[LEVEL],
+            n[TIME],
+            n[COUNT],
+            n[A],
+            b,
+            count as u64,
+        ],
+        [2, 1, 1, 8, 4, 4, 4, 4],
+    )
+}
+
+// Writes the frame of a line into space, and answers its length, 0 where it is refused: the credential's issuer and the
+// frame builder are the product's own.
+pub fn build(n: [u64; 76], key: [u8; 32], payload: &[u8], space: &mut [u8]) -> usize {
     let mut credential = [0u8; 36];
-    let key = signing_key(b, keys, c, t.signer);
-    let issued = client::issue(c, &key, &mut credential);
+    let issued = client::issue(credential_of(n), &key, &mut credential);
     let secret = issued.key;
-    let request = request_bytes(terms::request_of(t, s, terms::four(payload.len() as u64)));
+    let request = request_of(n, payload.len());
     let built = client::build(&credential, &request, payload, &secret, space);
-    let kept = b.kept;
-    Built {
-        kept,
-        length: built.length,
-        secret,
-    }
+    built.length
 }

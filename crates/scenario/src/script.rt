@@ -3,56 +3,6 @@
 ghost use Prim.Native.Nat.{_≤_, _<_};
 ghost use lib.ListN.{length};
 ghost use Rattle.io.specs.Counts.{Counts};
-use crate::words::COMMENT;
-use crate::words::END;
-use crate::words::step_word;
-
-// The line that is played, `from` up to `to`; where the next one starts; where to go on behind a part; and how many times
-// more the line is played.
-pub struct Cursor {
-    pub from: usize,
-    pub to: usize,
-    pub next: usize,
-    pub back: usize,
-    pub left: u64,
-}
-
-// What a line says: its word, and its numbers, 0 for each that is not there.
-pub struct Step {
-    pub word: u8,
-    pub a: u64,
-    pub b: u64,
-    pub c: u64,
-    pub d: u64,
-    pub e: u64,
-    pub f: u64,
-    pub g: u64,
-}
-
-// Before the first line.
-pub fn start() -> Cursor {
-    Cursor {
-        from: 0,
-        to: 0,
-        next: 0,
-        back: usize::MAX,
-        left: 0,
-    }
-}
-
-// A line that says nothing.
-pub fn no_step() -> Step {
-    Step {
-        word: COMMENT,
-        a: 0,
-        b: 0,
-        c: 0,
-        d: 0,
-        e: 0,
-        f: 0,
-        g: 0,
-    }
-}
 
 fn least(a: usize, b: usize) -> usize
     ensures { λ r. ⌜ r ≤ b ⌝ }
@@ -61,10 +11,10 @@ fn least(a: usize, b: usize) -> usize
 }
 
 // n, or how many bytes there are where they are fewer.
-pub fn most(n: usize, bytes: &[u8]) -> usize
+pub fn most(n: u64, bytes: &[u8]) -> usize
     ensures { λ r. ⌜ Counts r (now (bytes .entry)) ⌝ }
 {
-    least(n, bytes.len())
+    least(n as usize, bytes.len())
 }
 
 // The bytes from place `from` up to `to`; none where they are not all there.
@@ -79,7 +29,7 @@ pub fn part<'a>(s: &'a [u8], from: usize, to: usize) -> &'a [u8] {
 }
 
 // The first place from `from` on that has the byte b, else the end.
-fn find(s: &[u8], from: usize, b: u8) -> usize
+pub fn find(s: &[u8], from: usize, b: u8) -> usize
     ensures { λ r. ⌜ from ≤ r ⌝ }
 {
     let mut i = from;
@@ -105,7 +55,7 @@ fn skip(s: &[u8], from: usize, b: u8) -> usize {
 }
 
 // The place behind the first byte b from `from` on, else the end.
-fn behind(s: &[u8], from: usize, b: u8) -> usize
+pub fn behind(s: &[u8], from: usize, b: u8) -> usize
     ensures { λ r. ⌜ (from < length (now (s .entry)) → from < r) ⌝ }
 {
     let i = find(s, from, b);
@@ -124,14 +74,15 @@ fn word_start(s: &[u8], from: usize, k: usize) -> usize {
     at
 }
 
-// The word at a place.
-fn word_at<'a>(s: &'a [u8], at: usize) -> &'a [u8] {
-    let to = find(s, at, b' ');
-    part(s, at, to)
+// The word of a line behind k others.
+pub fn word<'a>(line: &'a [u8], k: usize) -> &'a [u8] {
+    let at = word_start(line, 0, k);
+    let to = find(line, at, b' ');
+    part(line, at, to)
 }
 
 // What stands before the colon.
-fn head<'a>(line: &'a [u8]) -> &'a [u8] {
+pub fn head<'a>(line: &'a [u8]) -> &'a [u8] {
     let to = find(line, 0, b':');
     part(line, 0, to)
 }
@@ -143,7 +94,7 @@ pub fn label<'a>(line: &'a [u8]) -> &'a [u8] {
     if from < line.len() {
         return part(line, from, line.len());
     }
-    word_at(line, 0)
+    word(line, 0)
 }
 
 // The text between the quotes.
@@ -185,106 +136,30 @@ fn number_at(s: &[u8], at: usize) -> u64 {
     x
 }
 
-// The k-th number of a line.
-fn number(line: &[u8], k: usize) -> u64 {
+// The k-th number of a line; `absent` where it has fewer.
+pub fn number_or(line: &[u8], k: usize, absent: u64) -> u64 {
     let at = word_start(line, 0, k);
-    number_at(line, at)
+    if at < line.len() {
+        return number_at(line, at);
+    }
+    absent
 }
 
-// What a line says; behind the last one, that the script ends.
-pub fn step_of(line: &[u8], last: bool) -> Step {
-    let s = head(line);
-    let word = step_word(word_at(s, 0));
-    Step {
-        word: if last { END } else { word },
-        a: number(s, 1),
-        b: number(s, 2),
-        c: number(s, 3),
-        d: number(s, 4),
-        e: number(s, 5),
-        f: number(s, 6),
-        g: number(s, 7),
-    }
+// Whether a line opens the part that another line names.
+fn opens(line: &[u8], by: &[u8]) -> bool {
+    octets::same(word(line, 0), b"part") & octets::same(word(line, 1), word(by, 1))
 }
 
-// The line that starts at a place. One that begins with `repeat N` is what stands behind that, played N times.
-fn line_at(script: &[u8], at: usize, back: usize) -> Cursor {
-    let to = find(script, at, b'\n');
-    let next = behind(script, at, b'\n');
-    let line = part(script, at, to);
-    if octets::same(word_at(line, 0), b"repeat") {
-        let left = number(line, 1);
-        return Cursor {
-            from: word_start(script, at, 2),
-            to,
-            next,
-            back,
-            left,
-        };
-    }
-    Cursor {
-        from: at,
-        to,
-        next,
-        back,
-        left: 1,
-    }
-}
-
-// The line to play after that of the cursor: the same one where it is to be played again.
-pub fn next_line(script: &[u8], c: Cursor) -> Cursor {
-    if c.left > 1 {
-        return Cursor {
-            from: c.from,
-            to: c.to,
-            next: c.next,
-            back: c.back,
-            left: c.left - 1,
-        };
-    }
-    line_at(script, c.next, c.back)
-}
-
-// Where the lines of the part start whose name is the second word of `line`; the end where there is no such part.
-fn part_start(script: &[u8], line: &[u8]) -> usize {
-    let name = word_at(line, word_start(line, 0, 1));
+// Where the lines of the part start that a line names; the end where there is no such part.
+pub fn part_start(script: &[u8], by: &[u8]) -> usize {
     let mut at: usize = 0;
     while at < script.len() {
         let to = find(script, at, b'\n');
         let next = behind(script, at, b'\n');
-        if opens(part(script, at, to), name) {
+        if opens(part(script, at, to), by) {
             return next;
         }
         at = next;
     }
     at
-}
-
-// Whether a line opens the part of a name.
-fn opens(line: &[u8], name: &[u8]) -> bool {
-    let word = word_at(line, 0);
-    let named = word_at(line, word_start(line, 0, 1));
-    octets::same(word, b"part") & octets::same(named, name)
-}
-
-// Goes on at a part, and comes back behind the line `do`.
-pub fn into_part(script: &[u8], line: &[u8], c: Cursor) -> Cursor {
-    Cursor {
-        from: c.from,
-        to: c.to,
-        next: part_start(script, line),
-        back: c.next,
-        left: 0,
-    }
-}
-
-// Goes on behind the `do` that led here; at the end where none did.
-pub fn out_of_part(c: Cursor) -> Cursor {
-    Cursor {
-        from: c.from,
-        to: c.to,
-        next: c.back,
-        back: usize::MAX,
-        left: 0,
-    }
 }

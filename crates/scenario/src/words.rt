@@ -1,160 +1,158 @@
-// The words of a script, each with its number. Operations have document 01's.
-pub const UNKNOWN: u8 = 0;
+// The words of a script, and the places of a turn's numbers. A word's number is its place in the table; that of a word that
+// sets a number is also the number's place.
+ghost use Prim.Native.Nat.{_<_};
+use crate::script;
 
-pub const WRITE: u8 = 2;
+pub const WRITE: usize = 2;
 
-pub const SETKEY: u8 = 7;
+pub const SETKEY: usize = 7;
 
-pub const AGAIN: u8 = 8;
+pub const AGAIN: usize = 8;
 
-pub const NOTHING: u8 = 9;
+pub const FORMAT: usize = 9;
 
-pub const FORMAT: u8 = 10;
+pub const DAMAGE: usize = 10;
 
-pub const DAMAGE: u8 = 11;
+pub const DO: usize = 11;
 
-pub const DO: u8 = 12;
+pub const DONE: usize = 12;
 
-pub const DONE: u8 = 13;
+pub const STOP: usize = 13;
 
-pub const END: u8 = 14;
+pub const TITLE: usize = 14;
 
-pub const TITLE: u8 = 15;
+pub const COMMENT: usize = 15;
 
-pub const COMMENT: u8 = 16;
+pub const KEEP: usize = 16;
 
-pub const CREDENTIAL: u8 = 20;
+pub const MARK: usize = 17;
 
-pub const RIGHTS: u8 = 21;
+pub const HELD: usize = 18;
 
-pub const LEAST: u8 = 22;
+pub const OBJECTS: usize = 19;
 
-pub const RANGE: u8 = 23;
+pub const RECORD: usize = 20;
 
-pub const EXPIRY: u8 = 24;
+pub const START: usize = 21;
 
-pub const LEVEL: u8 = 30;
+pub const KEY: usize = 22;
 
-pub const TIME: u8 = 31;
+pub const SIZE: usize = 23;
 
-pub const COUNT: u8 = 32;
+// The words from here on set numbers.
+pub const PARTITION: usize = 24;
 
-pub const PACE: u8 = 33;
+pub const SLOT: usize = 25;
 
-pub const CLOCK: u8 = 34;
+pub const OBJECT: usize = 26;
 
-pub const SPACE: u8 = 35;
+pub const VERSION: usize = 27;
 
-pub const MEDIUM: u8 = 36;
+pub const HOLDER: usize = 28;
 
-pub const SIGN: u8 = 37;
+pub const RIGHTS: usize = 29;
 
-pub const KEEP: u8 = 38;
+pub const LEAST: usize = 30;
 
-pub const QUIET: u8 = 39;
+pub const FIRST: usize = 31;
 
-pub const MARK: u8 = 50;
+pub const END: usize = 32;
 
-pub const HELD: u8 = 51;
+pub const EXPIRY: usize = 33;
 
-pub const OBJECTS: u8 = 52;
+pub const LEVEL: usize = 34;
 
-pub const RECORD: u8 = 53;
+pub const TIME: usize = 35;
 
-pub const START: u8 = 54;
+pub const COUNT: usize = 36;
 
-pub const KEY: u8 = 55;
+pub const PACE: usize = 37;
 
-pub const SIZE: u8 = 56;
+pub const CLOCK: usize = 38;
 
-// The number where the word is the name, else what it was.
-fn named(word: &[u8], name: &[u8], number: u8, rest: u8) -> u8 {
-    if octets::same(word, name) {
-        number
-    } else {
-        rest
+pub const SPACE: usize = 39;
+
+pub const MEDIUM: usize = 40;
+
+pub const SIGN: usize = 41;
+
+pub const QUIET: usize = 42;
+
+pub const REPEAT: usize = 43;
+
+// How many bytes of the last frame are put.
+pub const LENGTH: usize = 44;
+
+// What else a turn has: the line's word, where it stands, where the next one starts, where to go on behind a part.
+pub const WORD: usize = 52;
+
+pub const FROM: usize = 53;
+
+pub const TO: usize = 54;
+
+pub const NEXT: usize = 55;
+
+pub const BACK: usize = 56;
+
+// The line's numbers, seven of them.
+pub const A: usize = 57;
+
+pub const B: usize = 58;
+
+pub const C: usize = 59;
+
+// M, mark; of partition 0 how many objects, the second one's four numbers, how many entries: what `record` prints. Then the
+// last version given, and where the object that the line names starts.
+pub const SEEN: usize = 64;
+
+pub const LAST: usize = 72;
+
+pub const PLACE: usize = 73;
+
+// The place of a word in a table of words, 0 where it has none.
+fn place_in(table: &[u8], word: &[u8]) -> usize
+    ensures { λ r. ⌜ r < 45 ⌝ }
+{
+    let mut k: usize = 1;
+    while k < 45 {
+        if octets::same(script::word(table, k), word) {
+            return k;
+        }
+        k += 1;
     }
+    0
 }
 
-// The words that call the drive.
-fn call_word(word: &[u8], rest: u8) -> u8 {
-    let w = named(word, b"read", 1, rest);
-    let w = named(word, b"write", WRITE, w);
-    let w = named(word, b"look", 3, w);
-    let w = named(word, b"raise", 4, w);
-    let w = named(word, b"create", 5, w);
-    let w = named(word, b"delete", 6, w);
-    let w = named(word, b"setkey", SETKEY, w);
-    let w = named(word, b"again", AGAIN, w);
-    let w = named(word, b"nothing", NOTHING, w);
-    named(word, b"format", FORMAT, w)
+// The number of a word, 0 where it is none. An empty line is a comment.
+pub fn word_number(word: &[u8]) -> usize {
+    if word.len() == 0 {
+        return COMMENT;
+    }
+    place_in(
+        b"? read write look raise create delete setkey again format damage do done stop # ; \
+        keep mark held objects record start key M \
+        credential slot object version holder rights least first end expiry level time count \
+        pace clock space medium sign quiet repeat length",
+        word,
+    )
 }
 
-// The words that set a number of the credential.
-fn credential_word(word: &[u8], rest: u8) -> u8 {
-    let w = named(word, b"credential", CREDENTIAL, rest);
-    let w = named(word, b"rights", RIGHTS, w);
-    let w = named(word, b"least", LEAST, w);
-    let w = named(word, b"range", RANGE, w);
-    named(word, b"expiry", EXPIRY, w)
-}
-
-// The words that set another number of the calls that follow.
-fn setting_word(word: &[u8], rest: u8) -> u8 {
-    let w = named(word, b"level", LEVEL, rest);
-    let w = named(word, b"time", TIME, w);
-    let w = named(word, b"count", COUNT, w);
-    let w = named(word, b"pace", PACE, w);
-    let w = named(word, b"clock", CLOCK, w);
-    let w = named(word, b"space", SPACE, w);
-    let w = named(word, b"medium", MEDIUM, w);
-    let w = named(word, b"sign", SIGN, w);
-    let w = named(word, b"keep", KEEP, w);
-    named(word, b"quiet", QUIET, w)
-}
-
-// The words that print what the drive has.
-fn sight_word(word: &[u8], rest: u8) -> u8 {
-    let w = named(word, b"mark", MARK, rest);
-    let w = named(word, b"held", HELD, w);
-    let w = named(word, b"objects", OBJECTS, w);
-    let w = named(word, b"record", RECORD, w);
-    let w = named(word, b"start", START, w);
-    let w = named(word, b"key", KEY, w);
-    named(word, b"size", SIZE, w)
-}
-
-// The words that lead through the script, and `damage`. An empty line is a comment.
-fn other_word(word: &[u8], rest: u8) -> u8 {
-    let w = named(word, b"damage", DAMAGE, rest);
-    let w = named(word, b"do", DO, w);
-    let w = named(word, b"done", DONE, w);
-    let w = named(word, b"end", END, w);
-    let w = named(word, b"#", TITLE, w);
-    let w = named(word, b";", COMMENT, w);
-    named(word, b"", COMMENT, w)
-}
-
-// The number of a word.
-pub fn step_word(word: &[u8]) -> u8 {
-    let w = call_word(word, UNKNOWN);
-    let w = credential_word(word, w);
-    let w = setting_word(word, w);
-    let w = sight_word(word, w);
-    other_word(word, w)
+// Where the numbers of a word's line go: from the word's own place on where it sets numbers.
+pub fn base_of(word: usize) -> usize {
+    if word < PARTITION { A } else { word }
 }
 
 // Whether a word puts a frame to the gate.
-pub fn sends(word: u8) -> bool {
-    (word >= 1) & (word <= NOTHING)
+pub fn sends(word: usize) -> bool {
+    (word >= 1) & (word <= AGAIN)
 }
 
 // Whether a word builds the frame that it puts.
-pub fn builds(word: u8) -> bool {
+pub fn builds(word: usize) -> bool {
     (word >= 1) & (word <= SETKEY)
 }
 
 // Whether a word has an answer, which is printed.
-pub fn answers(word: u8) -> bool {
+pub fn answers(word: usize) -> bool {
     (word >= 1) & (word <= FORMAT)
 }
