@@ -1,0 +1,21 @@
+-- One number a turn.
+use mathlib.Core.Path.{_≡_, refl}
+use Prim.Native.Nat.{_≤_, _-_}
+use native.Mathlib.Omega.{arith}
+use lib.ListN.{length}
+use borrow.Author.Needs.{needs}
+use Rattle.scenario.proofs.turn.parsed.Statement.{statement}
+use Rattle.scenario.proofs.turn.parsed.Tie as tie
+
+abbrev Inv-loop : tie.InvT-loop
+Inv-loop line base n₀ i₀ n i = (i ≤ 7) × (length n ≡ 76)
+
+abbrev μ-loop : tie.MeasureT-loop
+μ-loop line base n₀ i₀ n i = 7 - i
+
+pub parsed-spec : {M : Type 1} → statement M
+parsed-spec =
+    tie.close
+    (tie.spec
+    Inv-loop μ-loop (λ c. search needs) (λ c. (omega arith, search needs)) (λ c. search needs) (λ c. search needs) (λ c. search needs) (λ c κs. search needs)
+    (λ c. search needs) (λ c κs. search needs) (λ c. search needs) (λ c. search needs) (λ c. search needs) (λ c. search needs) (λ c. omega arith) (λ c. (omega arith, search needs)) (λ c. search needs))

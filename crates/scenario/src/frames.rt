@@ -1,0 +1,110 @@
+// Frames, built by the client end from the numbers of a turn.
+ghost use mathlib.Core.Path.{_≡_};
+ghost use lib.ListN.{length};
+use crate::words::A;
+use crate::words::B;
+use crate::words::COUNT;
+use crate::words::END;
+use crate::words::EXPIRY;
+use crate::words::FIRST;
+use crate::words::HOLDER;
+use crate::words::LEAST;
+use crate::words::LEVEL;
+use crate::words::OBJECT;
+use crate::words::PARTITION;
+use crate::words::RIGHTS;
+use crate::words::SLOT;
+use crate::words::TIME;
+use crate::words::VERSION;
+use crate::words::WORD;
+use crate::words::WRITE;
+use rules::Credential;
+
+// A number as one byte, two or four: the largest where it is larger.
+pub fn one(x: u64) -> u8 {
+    if x < 256 { x as u8 } else { 255 }
+}
+
+fn two(x: u64) -> u16 {
+    if x < 65536 { x as u16 } else { 65535 }
+}
+
+pub fn four(x: u64) -> u32 {
+    if x < 0x100000000 {
+        x as u32
+    } else {
+        0xffffffff
+    }
+}
+
+fn credential_of(n: [u64; 76]) -> Credential {
+    Credential {
+        magic: 0x4c43,
+        partition: one(n[PARTITION]),
+        slot: one(n[SLOT]),
+        object: four(n[OBJECT]),
+        version: four(n[VERSION]),
+        rights: two(n[RIGHTS]),
+        least: one(n[LEAST]),
+        zero: 0,
+        first: four(n[FIRST]),
+        end: four(n[END]),
+        expiry: n[EXPIRY],
+        holder: four(n[HOLDER]),
+    }
+}
+
+// B is the line's second number, in a write how many data bytes there are.
+fn b_of(n: [u64; 76], count: usize) -> u64 {
+    if n[WORD] as usize == WRITE {
+        count as u64
+    } else {
+        n[B]
+    }
+}
+
+// A request's 28 bytes of its eight numbers, each in as many bytes as its width.
+fn request_bytes(numbers: [u64; 8], widths: [usize; 8]) -> [u8; 28]
+    ensures { λ r. ⌜ 28 ≡ length r ⌝ }
+{
+    let mut bytes = [0u8; 28];
+    let mut at: usize = 0;
+    let mut i: usize = 0;
+    while i < 8 {
+        octets::put(&mut bytes, at, widths[i], numbers[i]);
+        at = std::num::wrapping_add_usize(at, widths[i]);
+        i += 1;
+    }
+    bytes
+}
+
+// The line's request, with so many data bytes.
+fn request_of(n: [u64; 76], count: usize) -> [u8; 28]
+    ensures { λ r. ⌜ 28 ≡ length r ⌝ }
+{
+    let b = b_of(n, count);
+    request_bytes(
+        [
+            0x4c52,
+            n[WORD],
+            n[LEVEL],
+            n[TIME],
+            n[COUNT],
+            n[A],
+            b,
+            count as u64,
+        ],
+        [2, 1, 1, 8, 4, 4, 4, 4],
+    )
+}
+
+// Writes the frame of a line into space, and answers its length, 0 where it is refused: the credential's issuer and the
+// frame builder are the product's own.
+pub fn build(n: [u64; 76], key: [u8; 32], payload: &[u8], space: &mut [u8]) -> usize {
+    let mut credential = [0u8; 36];
+    let issued = client::issue(credential_of(n), &key, &mut credential);
+    let secret = issued.key;
+    let request = request_of(n, payload.len());
+    let built = client::build(&credential, &request, payload, &secret, space);
+    built.length
+}

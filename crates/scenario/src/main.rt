@@ -1,0 +1,147 @@
+// Plays the scenarios of the script on standard input: each line sets a number of the calls that follow, puts a frame to
+// the gate or prints what the drive has; `stdin` says at its head what the words mean. Frames are made by the client end,
+// and `stdout` has the rows and replies that must come, in hexadecimal.
+ghost use mathlib.Core.Path.{_≡_};
+ghost use lib.ListN.{length};
+use drive::Answer;
+use drive::Drive;
+use frames::four;
+use libc::STDIN_FILENO;
+use partition::Partition;
+use rules::Object;
+use turn::Turn;
+
+mod frames;
+mod say;
+mod script;
+mod turn;
+mod words;
+
+// A proved loop has to end, and a script can lead to itself: after so many lines it is given up.
+const MOST: u64 = 100000;
+
+// What it holds before the first format.
+fn medium_buffer() -> [u8; 400]
+    ensures { λ r. ⌜ 400 ≡ length r ⌝ }
+{
+    [0xaa; 400]
+}
+
+// No longer frame is built, or reply called for.
+fn frame_buffer() -> [u8; 160]
+    ensures { λ r. ⌜ 160 ≡ length r ⌝ }
+{
+    [0; 160]
+}
+
+// With what a line can see of the drive.
+fn seen(a: Answer, numbers: [u64; 76], kept: [u8; 32]) -> Turn {
+    let d = a.drive;
+    let keys = d.keys;
+    let p = d.partitions[0];
+    let m = d.memories[0];
+    turn::noted(numbers, kept, d.size, d.highwater, m.count, keys, p)
+}
+
+// The second object that `damage` says.
+fn object_of(n: [u64; 76]) -> Object {
+    Object {
+        number: four(n[words::A + 2]),
+        version: four(n[words::A + 3]),
+        size: four(n[words::A + 4]),
+        start: four(n[words::A + 5]),
+    }
+}
+
+// A partition with so many objects, and the second one.
+fn damaged_partition(old: Partition, count: usize, second: Object) -> Partition {
+    let mut p = old;
+    let mut os = p.objects;
+    os.items[1] = second;
+    os.count = count;
+    p.objects = os;
+    p
+}
+
+// The drive with M, partition 0's objects and the number of its entries as `damage` says.
+fn damaged(old: Drive, n: [u64; 76]) -> Drive {
+    let mut d = old;
+    let p = d.partitions[0];
+    let q = damaged_partition(p, n[words::B] as usize, object_of(n));
+    let mut m = d.memories[0];
+    m.count = n[words::A + 6] as usize;
+    d.size = n[words::A] as usize;
+    d.partitions[0] = q;
+    d.memories[0] = m;
+    d
+}
+
+// The drive of a format.
+fn made(medium: &mut [u8], first: u32, master: &[u8], key: &[u8]) -> Answer {
+    let f = drive::format(medium, first, master, key);
+    let drive = f.drive;
+    Answer {
+        row: f.row,
+        length: 0,
+        drive,
+    }
+}
+
+// A drive of the line's first version, with a master key and a drive key of so many bytes.
+fn formatted(n: [u64; 76], medium: &mut [u8]) -> Answer {
+    let master = [0u8; 40];
+    let key = [1u8; 40];
+    let m = script::most(n[words::B], &master);
+    let k = script::most(n[words::C], &key);
+    made(medium, four(n[words::A]), &master[..m], &key[..k])
+}
+
+// The gate's answer to the frame, with as much of the medium and the reply space lent as the numbers say.
+fn put(d: Drive, n: [u64; 76], medium: &mut [u8], frame: &[u8], reply: &mut [u8]) -> Answer {
+    let m = script::most(n[words::MEDIUM], medium);
+    let r = script::most(n[words::SPACE], reply);
+    let bytes = script::part(frame, 0, n[words::LENGTH] as usize);
+    drive::gate(d, &mut medium[..m], bytes, n[words::CLOCK], &mut reply[..r])
+}
+
+// What a line does to the drive.
+fn act(a: Answer, n: [u64; 76], medium: &mut [u8], frame: &[u8], reply: &mut [u8]) -> Answer {
+    let word = n[words::WORD] as usize;
+    let mut b = a;
+    if word == words::FORMAT {
+        return formatted(n, medium);
+    }
+    if words::sends(word) {
+        return put(a.drive, n, medium, frame, reply);
+    }
+    if word == words::DAMAGE {
+        let d = damaged(a.drive, n);
+        b.drive = d;
+    }
+    b
+}
+
+// Line after line.
+fn play(script: &[u8], medium: &mut [u8], frame: &mut [u8], reply: &mut [u8]) {
+    let mut t = turn::first_turn();
+    let mut n = t.numbers;
+    let mut a = formatted(n, medium);
+    let mut left = MOST;
+    while left > 0 {
+        let kept = t.kept;
+        t = turn::ready(seen(a, turn::next(n, script), kept), script, frame);
+        n = t.numbers;
+        a = act(a, n, medium, frame, reply);
+        turn::tell(n, a.row, a.length, script, reply);
+        left = turn::fewer(left, n[words::WORD]);
+    }
+}
+
+fn main() {
+    let mut script = io::large_buffer();
+    let mut medium = medium_buffer();
+    let mut frame = frame_buffer();
+    let mut reply = frame_buffer();
+    let n = io::read_full(STDIN_FILENO, &mut script);
+    play(&script[..n], &mut medium, &mut frame, &mut reply);
+}

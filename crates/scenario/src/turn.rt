@@ -1,0 +1,273 @@
+// One line of the script: all that it does but what is done to the drive. The numbers of a turn stand at the places that
+// `words` names.
+ghost use Prim.Native.Nat.{_<_};
+use crate::frames;
+use crate::frames::four;
+use crate::frames::one;
+use crate::say;
+use crate::script;
+use crate::words;
+use keyring::Keys;
+use partition::Partition;
+use rules::Object;
+
+// What goes from line to line: the numbers; the key in the slot that the line names; the key that is kept.
+pub struct Turn {
+    pub numbers: [u64; 76],
+    pub key: [u8; 32],
+    pub kept: [u8; 32],
+}
+
+// Before the first line.
+pub fn first_turn() -> Turn {
+    Turn {
+        numbers: [0u64; 76],
+        key: [0u8; 32],
+        kept: [0u8; 32],
+    }
+}
+
+// The line that a turn plays.
+fn line_of<'a>(script: &'a [u8], n: [u64; 76]) -> &'a [u8] {
+    let from = n[words::FROM] as usize;
+    let to = n[words::TO] as usize;
+    script::part(script, from, to)
+}
+
+// At the line to play next: the same one where it is a call that is to be repeated.
+fn moved(old: [u64; 76], script: &[u8]) -> [u64; 76] {
+    let mut n = old;
+    if words::sends(n[words::WORD] as usize) & (n[words::REPEAT] > 1) {
+        n[words::REPEAT] = std::num::wrapping_sub_u64(n[words::REPEAT], 1);
+        return n;
+    }
+    let at = n[words::NEXT] as usize;
+    n[words::FROM] = at as u64;
+    n[words::TO] = script::find(script, at, b'\n') as u64;
+    n[words::NEXT] = script::behind(script, at, b'\n') as u64;
+    n
+}
+
+// The number of a line's word; behind the last line that of `stop`.
+fn word_of(line: &[u8], script: &[u8], from: u64) -> usize {
+    if from >= script.len() as u64 {
+        return words::STOP;
+    }
+    words::word_number(script::word(line, 0))
+}
+
+// What a number is where the line has none: as it was where it stays, else 0.
+fn absent(x: u64, base: usize) -> u64 {
+    if base == words::A { 0 } else { x }
+}
+
+// With the line's numbers, from a place on.
+fn parsed(old: [u64; 76], line: &[u8], base: usize) -> [u64; 76] {
+    let mut n = old;
+    if base > words::A {
+        return n;
+    }
+    let mut i: usize = 0;
+    while i < 7 {
+        let x = absent(n[base + i], base);
+        n[base + i] = script::number_or(line, i + 1, x);
+        i += 1;
+    }
+    n
+}
+
+// Where to go on behind a part; at the end where no `do` led there.
+fn back_to(place: u64) -> u64 {
+    if place == 0 { u64::MAX } else { place }
+}
+
+// With the place where the script goes on: `do` goes to a part, `done` back behind the `do`.
+fn led(old: [u64; 76], script: &[u8], line: &[u8]) -> [u64; 76] {
+    let mut n = old;
+    let word = n[words::WORD] as usize;
+    if word == words::DO {
+        n[words::BACK] = n[words::NEXT];
+        n[words::NEXT] = script::part_start(script, line) as u64;
+    }
+    if word == words::DONE {
+        n[words::NEXT] = back_to(n[words::BACK]);
+        n[words::BACK] = 0;
+    }
+    n
+}
+
+// The next line.
+pub fn next(old: [u64; 76], script: &[u8]) -> [u64; 76] {
+    let mut n = moved(old, script);
+    let line = script::head(line_of(script, n));
+    let word = word_of(line, script, n[words::FROM]);
+    n[words::WORD] = word as u64;
+    n = parsed(n, line, words::base_of(word));
+    led(n, script, line)
+}
+
+// The credential's partition or slot, or the line's where it asks for a key.
+fn asked(word: usize, own: u64, named: u64) -> u8 {
+    if (word == words::KEY) | (word == words::KEEP) {
+        return one(named);
+    }
+    one(own)
+}
+
+// The key in the slot that the line names.
+fn key_for(n: [u64; 76], keys: Keys) -> [u8; 32] {
+    let word = n[words::WORD] as usize;
+    let p = asked(word, n[words::PARTITION], n[words::A]);
+    let slot = asked(word, n[words::SLOT], n[words::B]);
+    let key = keyring::key_in(keys, p as usize, slot);
+    key.bytes
+}
+
+// With the numbers of partition 0's second object.
+fn with_second(old: [u64; 76], o: Object) -> [u64; 76] {
+    let mut n = old;
+    n[words::SEEN + 3] = o.number as u64;
+    n[words::SEEN + 4] = o.version as u64;
+    n[words::SEEN + 5] = o.size as u64;
+    n[words::SEEN + 6] = o.start as u64;
+    n
+}
+
+// Where the object starts that a number names; the largest number where it names none.
+fn start_of(p: Partition, number: u32) -> u64 {
+    let found = partition::named(p, number);
+    let o = found.object;
+    if found.missing {
+        u64::MAX
+    } else {
+        o.start as u64
+    }
+}
+
+// With partition 0's numbers.
+fn with_objects(old: [u64; 76], p: Partition) -> [u64; 76] {
+    let mut n = old;
+    let os = p.objects;
+    let second = os.items[1];
+    n[words::SEEN + 2] = os.count as u64;
+    n[words::LAST] = p.last as u64;
+    n[words::PLACE] = start_of(p, four(n[words::A]));
+    with_second(n, second)
+}
+
+// With what the drive has: M, the mark, how many entries partition 0's memory has, its objects, the keys.
+pub fn noted(
+    old: [u64; 76],
+    kept: [u8; 32],
+    size: usize,
+    mark: u64,
+    held: usize,
+    keys: Keys,
+    p: Partition,
+) -> Turn {
+    let mut n = old;
+    n[words::SEEN] = size as u64;
+    n[words::SEEN + 1] = mark;
+    n[words::SEEN + 7] = held as u64;
+    let key = key_for(n, keys);
+    let numbers = with_objects(n, p);
+    Turn { numbers, key, kept }
+}
+
+// The last version given, and how many objects there are.
+fn show_objects(n: [u64; 76]) {
+    say::number(b"last version given", n[words::LAST]);
+    say::number(b"objects", n[words::SEEN + 2]);
+}
+
+// Where an object starts in its quarter.
+fn show_start(start: u64) {
+    if start != u64::MAX {
+        say::number(b"starts at", start);
+    }
+}
+
+// Prints what a line asks to see, a title, or that its word is none.
+fn show(n: [u64; 76], key: [u8; 32], line: &[u8]) {
+    let word = n[words::WORD] as usize;
+    match word {
+        0 => say::error(line),
+        words::TITLE => say::line(line),
+        words::MARK => say::number(b"mark", n[words::SEEN + 1]),
+        words::HELD => say::number(b"held", n[words::SEEN + 7]),
+        words::SIZE => say::number(b"M", n[words::SEEN]),
+        words::OBJECTS => show_objects(n),
+        words::RECORD => say::numbers(b"record", &n[words::SEEN..words::LAST]),
+        words::START => show_start(n[words::PLACE]),
+        words::KEY => say::bytes(b"key", &key),
+        _ => {}
+    }
+}
+
+// The key that a frame is built under: 0 the one that the drive has in the credential's slot, 1 the one that is kept, else
+// a stranger's.
+fn signing_key(signer: u64, key: [u8; 32], kept: [u8; 32]) -> [u8; 32] {
+    if signer == 0 {
+        return key;
+    }
+    if signer == 1 {
+        return kept;
+    }
+    [9u8; 32]
+}
+
+// The numbers with the line's frame built. The next one has another nonce, unless a line says otherwise.
+fn framed(old: [u64; 76], key: [u8; 32], line: &[u8], frame: &mut [u8]) -> [u64; 76] {
+    let mut n = old;
+    n[words::LENGTH] = frames::build(n, key, script::text(line), frame) as u64;
+    n[words::COUNT] = std::num::wrapping_add_u64(n[words::COUNT], 1);
+    n[words::TIME] = std::num::wrapping_add_u64(n[words::TIME], n[words::PACE]);
+    n
+}
+
+// With what the line prints printed, its frame built, its key kept.
+pub fn ready(t: Turn, script: &[u8], frame: &mut [u8]) -> Turn {
+    let n = t.numbers;
+    let key = t.key;
+    let kept = t.kept;
+    let word = n[words::WORD] as usize;
+    let line = line_of(script, n);
+    show(n, key, line);
+    if words::builds(word) {
+        let by = signing_key(n[words::SIGN], key, kept);
+        let numbers = framed(n, by, line, frame);
+        return Turn { numbers, key, kept };
+    }
+    if word == words::KEEP {
+        return Turn {
+            numbers: n,
+            key,
+            kept: key,
+        };
+    }
+    t
+}
+
+// Prints the answer to a line that has one.
+pub fn tell(n: [u64; 76], row: u32, length: usize, script: &[u8], space: &[u8]) {
+    let word = n[words::WORD] as usize;
+    if (n[words::QUIET] != 0) | !words::answers(word) {
+        return;
+    }
+    let label = script::label(line_of(script, n));
+    say::answer(label, row, script::part(space, 0, length));
+}
+
+// How many lines may still be played: one less, and none behind the end.
+pub fn fewer(left: u64, word: u64) -> u64
+    requires { ⌜ 0 < left ⌝ }
+    ensures { λ r. ⌜ r < left ⌝ }
+{
+    if word as usize == words::STOP {
+        return 0;
+    }
+    if left == 1 {
+        say::error(b"too many lines");
+    }
+    left - 1
+}
