@@ -1,14 +1,11 @@
--- Numbers bit by bit: XOR is associative, cheaper forms of a choice and of a majority, and rotates.
-use mathlib.Core.Path.{_≡_, refl, sym, ap, ap₂, subst, _∙_}
-use Prim.Native.Nat.{ℕ, zero, suc, _+_, _-_, _*_, _/_, _%_, _^_, _<_}
-use native.Mathlib.Nat.{pow-suc, add-zero, add-assoc, add-comm, add-mul, mul-assoc}
-use native.Mathlib.Nat.{mul-mod-left, mul-add-mod-self-right, add-mul-div-right}
+-- Numbers bit by bit: XOR is associative, and cheaper forms of a choice and of a majority.
+use mathlib.Core.Path.{_≡_, refl, subst}
+use Prim.Native.Nat.{ℕ, zero, suc, _-_, _*_, _/_, _%_, _^_, _<_}
+use native.Mathlib.Nat.{pow-suc}
 use native.Mathlib.Decide.{decLt}
 use native.Mathlib.Omega.{arith}
 use lib.Arith.{bin-ind}
-use lib.Bits.{bitAnd, bitOr, bitXor, and-mod, and-shr, and-zero-r, xor-mod, xor-shr, xor-zero-r, xor-block}
-use lib.Bits.{or-shifted-r}
-use lib.Pow.{pow-pos, pow-add, shr-shr, shl-shr, mod-pow-add}
+use lib.Bits.{bitAnd, bitXor, and-mod, and-shr, and-zero-r, xor-mod, xor-shr, xor-zero-r}
 
 -- a number is its half and its lowest bit
 same : (a b : ℕ) → a / 2 ≡ b / 2 → a % 2 ≡ b % 2 → a ≡ b
@@ -127,46 +124,3 @@ choice (suc k) x y z hx hz =
     )
     (by-bits (λ x y z. bitXor (bitAnd (bitXor y z) x) z ≡ bitXor (bitAnd x y) (bitAnd (1 - x) z))
     refl refl refl refl refl refl refl refl x y z))
-
--- ---- rotates
-
--- the rotate right by n of a number of n + m bits
-abbrev pub rotated : ℕ → ℕ → ℕ → ℕ
-rotated n m x = (x % 2 ^ n) * 2 ^ m + x / 2 ^ n
-
--- it distributes over XOR
-pub rotated-xor : (n m x y : ℕ) → x / 2 ^ n < 2 ^ m → y / 2 ^ n < 2 ^ m
-    → rotated n m (bitXor x y) ≡ bitXor (rotated n m x) (rotated n m y)
-rotated-xor n m x y hx hy =
-    rw (xor-mod x y n, xor-shr x y n, xor-block m (x % 2 ^ n) (y % 2 ^ n) (x / 2 ^ n) (y / 2 ^ n) hx hy)
-
--- as it is computed
-shl-mod : (n m x : ℕ) → x * 2 ^ m % 2 ^ (n + m) ≡ (x % 2 ^ n) * 2 ^ m
-shl-mod n m x =
-    mod-pow-add (x * 2 ^ m) n m ∙ ap₂ (λ (p q : ℕ). (p % 2 ^ n) * 2 ^ m + q) (shl-shr x m) (mul-mod-left x (2 ^ m))
-    ∙ add-zero ((x % 2 ^ n) * 2 ^ m)
-
-pub rotated-is : (n m x : ℕ) → x / 2 ^ n < 2 ^ m → bitOr (x / 2 ^ n) (x * 2 ^ m % 2 ^ (n + m)) ≡ rotated n m x
-rotated-is n m x h = ap (bitOr (x / 2 ^ n)) (shl-mod n m x) ∙ or-shifted-r (x % 2 ^ n) m (x / 2 ^ n) h
-
--- two rotates are one, by their sum
-pub rotated-twice : (n p r x : ℕ) → rotated n (p + r) (rotated p (r + n) x) ≡ rotated (n + p) r x
-rotated-twice n p r x =
-    let c : ℕ = x % 2 ^ p in
-    let d : ℕ = x / 2 ^ p in
-    let y : c * 2 ^ (r + n) + d ≡ c * 2 ^ r * 2 ^ n + d =
-    ap (λ (k : ℕ). c * k + d) (pow-add 2 r n) ∙ ap (λ (k : ℕ). k + d) (sym (mul-assoc c (2 ^ r) (2 ^ n))) in
-    let l : (c * 2 ^ (r + n) + d) % 2 ^ n ≡ d % 2 ^ n =
-    ap (λ (k : ℕ). k % 2 ^ n) y ∙ mul-add-mod-self-right (c * 2 ^ r) (2 ^ n) d in
-    let u : (c * 2 ^ (r + n) + d) / 2 ^ n ≡ c * 2 ^ r + x / 2 ^ (n + p) =
-    ap (λ (k : ℕ). k / 2 ^ n) y ∙ ap (λ (k : ℕ). k / 2 ^ n) (add-comm (c * 2 ^ r * 2 ^ n) d)
-    ∙ add-mul-div-right d (c * 2 ^ r) (pow-pos n) ∙ add-comm (d / 2 ^ n) (c * 2 ^ r)
-    ∙ ap (λ (k : ℕ). c * 2 ^ r + k) (shr-shr x p n ∙ ap (λ (k : ℕ). x / 2 ^ k) (add-comm p n)) in
-    ap₂ (λ (i j : ℕ). i * 2 ^ (p + r) + j) l u
-    ∙ rw (
-      pow-add 2 p r,
-      mod-pow-add x n p,
-      add-mul (d % 2 ^ n * 2 ^ p) c (2 ^ r),
-      mul-assoc (d % 2 ^ n) (2 ^ p) (2 ^ r),
-      add-assoc (d % 2 ^ n * (2 ^ p * 2 ^ r)) (c * 2 ^ r) (x / 2 ^ (n + p)),
-    )

@@ -2,7 +2,6 @@
 use mathlib.Core.Path.{_≡_, refl, ap, _∙_}
 use mathlib.Core.List.{List, _++_}
 use Prim.Native.Nat.{ℕ, zero, suc, _+_, _-_, _*_, _/_, _%_, _^_, _≤_, _<_}
-use native.Mathlib.Nat.{zero-add, suc-add}
 use native.Mathlib.Omega.{arith}
 use lib.ListN.{length, take, drop, length-append, length-drop}
 use lib.Seq.{drop-drop, drop-append-le, take-append-le, take-append-add, drop-append-add, take-all, take-at}
@@ -11,24 +10,9 @@ use Rattle.sha256_block.specs.declared.State.{State}
 use Rattle.sha256_stream.specs.declared.Hash.{Hash}
 use Rattle.sha256_block.specs.Sha256.{compress, blocks, H₀}
 use Rattle.sha256_stream.specs.Stream.{Absorbed}
-use Rattle.sha256_block.proofs.Compression.{blocks-suc}
+use Rattle.sha256_block.proofs.Compression.{blocks-suc, blocks-add}
 
 -- ---- blocks
-
--- q blocks and then k
-blocks-add : (q k : ℕ) (s : State) (m : List ℕ) → blocks (q + k) s m ≡ blocks k (blocks q s m) (drop (q * 64) m)
-unfolding blocks
-blocks-add zero k s m = rw zero-add
-blocks-add (suc q) k s m =
-    let e : 64 + q * 64 ≡ suc q * 64 = omega arith in
-    rw (
-      suc-add,
-      blocks-suc (q + k) s m,
-      blocks-suc q s m,
-      blocks-add q k (compress s (take 64 m)) (drop 64 m),
-      drop-drop (q * 64) 64 m,
-      e,
-    )
 
 -- blocks look no further than their bytes
 blocks-append : (q : ℕ) (s : State) (a b : List ℕ) → q * 64 ≤ length a → blocks q s (a ++ b) ≡ blocks q s a
