@@ -64,8 +64,8 @@ fn damaged_partition(old: Partition, count: usize, second: Object) -> Partition 
 }
 
 // The drive with M, partition 0's objects and the number of its entries as `damage` says.
-fn damaged(old: Drive, n: [u64; 76]) -> Drive {
-    let mut d = old;
+fn damaged(a: Answer, n: [u64; 76]) -> Answer {
+    let mut d = a.drive;
     let p = d.partitions[0];
     let q = damaged_partition(p, n[words::B] as usize, object_of(n));
     let mut m = d.memories[0];
@@ -73,7 +73,11 @@ fn damaged(old: Drive, n: [u64; 76]) -> Drive {
     d.size = n[words::A] as usize;
     d.partitions[0] = q;
     d.memories[0] = m;
-    d
+    Answer {
+        row: 0,
+        length: 0,
+        drive: d,
+    }
 }
 
 // The drive of a format.
@@ -107,7 +111,6 @@ fn put(d: Drive, n: [u64; 76], medium: &mut [u8], frame: &[u8], reply: &mut [u8]
 // What a line does to the drive.
 fn act(a: Answer, n: [u64; 76], medium: &mut [u8], frame: &[u8], reply: &mut [u8]) -> Answer {
     let word = n[words::WORD] as usize;
-    let mut b = a;
     if word == words::FORMAT {
         return formatted(n, medium);
     }
@@ -115,10 +118,9 @@ fn act(a: Answer, n: [u64; 76], medium: &mut [u8], frame: &[u8], reply: &mut [u8
         return put(a.drive, n, medium, frame, reply);
     }
     if word == words::DAMAGE {
-        let d = damaged(a.drive, n);
-        b.drive = d;
+        return damaged(a, n);
     }
-    b
+    a
 }
 
 // Line after line.

@@ -175,9 +175,9 @@ pub fn noted(
 }
 
 // The last version given, and how many objects there are.
-fn show_objects(n: [u64; 76]) {
-    say::number(b"last version given", n[words::LAST]);
-    say::number(b"objects", n[words::SEEN + 2]);
+fn show_objects(last: u64, count: u64) {
+    say::number(b"last version given", last);
+    say::number(b"objects", count);
 }
 
 // Where an object starts in its quarter.
@@ -190,16 +190,16 @@ fn show_start(start: u64) {
 // Prints what a line asks to see, a title, or that its word is none.
 fn show(n: [u64; 76], key: [u8; 32], line: &[u8]) {
     let word = n[words::WORD] as usize;
+    let label = script::word(line, 0);
+    let place = words::sight_place(word);
     match word {
         0 => say::error(line),
         words::TITLE => say::line(line),
-        words::MARK => say::number(b"mark", n[words::SEEN + 1]),
-        words::HELD => say::number(b"held", n[words::SEEN + 7]),
-        words::SIZE => say::number(b"M", n[words::SEEN]),
-        words::OBJECTS => show_objects(n),
-        words::RECORD => say::numbers(b"record", &n[words::SEEN..words::LAST]),
+        words::MARK | words::HELD | words::SIZE => say::number(label, n[place]),
+        words::OBJECTS => show_objects(n[words::LAST], n[words::SEEN + 2]),
+        words::RECORD => say::numbers(label, &n[words::SEEN..words::LAST]),
         words::START => show_start(n[words::PLACE]),
-        words::KEY => say::bytes(b"key", &key),
+        words::KEY => say::bytes(label, &key),
         _ => {}
     }
 }

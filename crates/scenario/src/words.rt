@@ -142,6 +142,17 @@ pub fn base_of(word: usize) -> usize {
     if word < PARTITION { A } else { word }
 }
 
+// Where the number is that a word shows.
+pub fn sight_place(word: usize) -> usize
+    ensures { λ r. ⌜ r < 76 ⌝ }
+{
+    match word {
+        MARK => SEEN + 1,
+        HELD => SEEN + 7,
+        _ => SEEN,
+    }
+}
+
 // Whether a word puts a frame to the gate.
 pub fn sends(word: usize) -> bool {
     (word >= 1) & (word <= AGAIN)
