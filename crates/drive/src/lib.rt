@@ -70,15 +70,16 @@ pub fn format(medium: &mut [u8], first: u32, master: &[u8], key: &[u8]) -> Forma
 }
 
 // Puts a frame to the drive at a clock reading: a grant, its reply at the start of `reply`; or one row number. What every
-// call does first stands here, and not in a function of its own: a drive that is handed on is copied, 9 KB each time.
+// call does first stands here, and not in a function of its own: a drive that is handed on is copied, 9 KB each time. The
+// drive is taken into `d` before row 1 is judged: with the test between them the compiler keeps one copy more.
 pub fn gate(drive: Drive, medium: &mut [u8], frame: &[u8], clock: u64, reply: &mut [u8]) -> Answer
     ensures { λ r. ⌜ GateMet drive (now (medium .entry)) (callOf (now (frame .entry)) clock (now (reply .entry))) r (now (medium .exit)) (now (reply .exit)) ⌝ }
 {
-    if !fresh::is_ready(drive, medium.len()) {
-        return refused(1, drive);
-    }
-    let mark = fresh::later(drive.highwater, clock);
     let mut d = drive;
+    if !fresh::is_ready(d, medium.len()) {
+        return refused(1, d);
+    }
+    let mark = fresh::later(d.highwater, clock);
     d.highwater = mark;
     let mut n = 0;
     while n < 5 {

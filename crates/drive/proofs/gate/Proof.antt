@@ -42,14 +42,14 @@ use Rattle.drive.proofs.gate.Tie as tie
 
 -- the first n memories are without outlived entries; all else is as the loop found it
 abbrev Inv-loop : tie.InvT-loop
-Inv-loop medium frame clock reply mark d₀ n₀ d n =
+Inv-loop medium frame clock reply d₀ mark n₀ d n =
     (n ≤ 5) × (length (d .memories) ≡ 5) × (every short (d .memories) ≡ true)
     × (map entered (d .memories) ≡ turned (keep (lives mark)) n (map entered (d₀ .memories)))
     × (d .size ≡ d₀ .size) × (d .highwater ≡ d₀ .highwater) × (d .keys ≡ d₀ .keys)
     × (d .partitions ≡ d₀ .partitions)
 
 abbrev μ-loop : tie.MeasureT-loop
-μ-loop medium frame clock reply mark d₀ n₀ d n = 5 - n
+μ-loop medium frame clock reply d₀ mark n₀ d n = 5 - n
 
 -- ---- row 1 does not apply: the record is sound, the medium its own, no count passes its array
 ready-of : (t : tie.Else1 Inv-loop μ-loop) → t .before .is-ready .result ≡ true
