@@ -5,17 +5,15 @@ ghost use mathlib.Core.Path.{_≡_};
 ghost use lib.ListN.{length};
 use drive::Answer;
 use drive::Drive;
-use frames::four;
 use libc::STDIN_FILENO;
 use partition::Partition;
 use rules::Object;
+use scenario_script::frames::four;
+use scenario_script::script;
+use scenario_script::words;
 use turn::Turn;
 
-mod frames;
-mod say;
-mod script;
 mod turn;
-mod words;
 
 // A proved loop has to end, and a script can lead to itself: after so many lines it is given up.
 const MOST: u64 = 100000;

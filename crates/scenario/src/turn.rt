@@ -1,15 +1,15 @@
 // One line of the script: all that it does but what is done to the drive. The numbers of a turn stand at the places that
 // `words` names.
 ghost use Prim.Native.Nat.{_<_};
-use crate::frames;
-use crate::frames::four;
-use crate::frames::one;
-use crate::say;
-use crate::script;
-use crate::words;
 use keyring::Keys;
 use partition::Partition;
 use rules::Object;
+use scenario_script::frames;
+use scenario_script::frames::four;
+use scenario_script::frames::one;
+use scenario_script::say;
+use scenario_script::script;
+use scenario_script::words;
 
 // What goes from line to line: the numbers; the key in the slot that the line names; the key that is kept.
 pub struct Turn {

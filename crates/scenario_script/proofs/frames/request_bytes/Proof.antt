@@ -4,8 +4,8 @@ use Prim.Native.Nat.{_≤_, _-_}
 use native.Mathlib.Omega.{arith}
 use lib.ListN.{length}
 use borrow.Author.Needs.{needs}
-use Rattle.scenario.proofs.frames.request_bytes.Statement.{statement}
-use Rattle.scenario.proofs.frames.request_bytes.Tie as tie
+use Rattle.scenario_script.proofs.frames.request_bytes.Statement.{statement}
+use Rattle.scenario_script.proofs.frames.request_bytes.Tie as tie
 
 abbrev Inv-loop : tie.InvT-loop
 Inv-loop numbers widths bytes₀ at₀ i₀ bytes at i = (i ≤ 8) × (length bytes ≡ 28)

@@ -2,8 +2,8 @@
 use native.Mathlib.Omega.{arith}
 use borrow.Author.Needs.{needs}
 use Rattle.io.proofs.Counting.{counts}
-use Rattle.scenario.proofs.script.most.Statement.{statement}
-use Rattle.scenario.proofs.script.most.Tie as tie
+use Rattle.scenario_script.proofs.script.most.Statement.{statement}
+use Rattle.scenario_script.proofs.script.most.Tie as tie
 
 returns : tie.Need-returns
 returns c = counts _ _ (omega arith)
