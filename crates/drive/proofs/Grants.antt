@@ -342,9 +342,8 @@ module _ (d : Drive) (m f space : List ℕ) (q : ParsedRequest) (e : requestTold
         ∙ ap (λ (o : rules.Operation). home (tablesAfter o Q x t) x) (sym name-is)
 
     pub memory-is : (new : Entry) → new ≡ entry x
-        → cond (length (remembered d x) under mostEntries) (remembered d x ++ (new ∷ [])) (remembered d x)
-        ≡ remembered (driveAfter (operationOf x) x d) x
+        → remembered d x ++ (new ∷ []) ≡ remembered (driveAfter (operationOf x) x d) x
     unfolding driveAfter remembered remember
     memory-is new k =
-        rw (lt-ltb (length (remembered d x)) 64 (w .entries), k)
+        rw k
         (sym (nth-update (memory x) (remember x) (d .memories) [] (omega (arith, in-five))))

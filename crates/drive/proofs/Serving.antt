@@ -9,7 +9,7 @@ use native.Mathlib.Omega.{arith}
 use lib.ListN.{length, getD, replicate, getD-replicate}
 use borrow.Author.Tests.{eq-eqb, ne-eqb, leb-true}
 use Rattle.lemmas.specs.Tests.{_is_, _isnt_, _under_}
-use Rattle.lemmas.specs.Lists.{same, missing, keep}
+use Rattle.lemmas.specs.Lists.{same, missing, keep, some?}
 use Rattle.lemmas.specs.Rows.{Row, line, firstRow, row-here, row-next}
 use Rattle.digest.specs.Hmac.{hmac}
 use Rattle.digest.specs.declared.mac.Mac.{Mac}
@@ -19,7 +19,7 @@ use Rattle.rules.specs.declared.Entry.{Entry}
 use Rattle.rules.specs.declared.Object.{Object}
 use Rattle.rules.specs.Frame.{Fields, fields, covered, operationOf, memory, entry}
 use Rattle.rules.specs.Drive as rules
-use Rattle.rules.specs.Drive.{quarter, largestMedium, lives, refresh, sound, mostObjects, mostEntries, unused}
+use Rattle.rules.specs.Drive.{quarter, largestMedium, lives, refresh, sound, sameEntry, mostObjects, mostEntries, unused}
 use Rattle.rules.specs.Operations.{home, keyIn, signing, credentialKey, digestOf, placeOf, replyLength, mediumAfter, reply, driveAfter}
 use Rattle.rules.specs.Rows.{row1, row8, row9, driveRows, remembered}
 use Rattle.rules.specs.Gate.{Answer, granted, refused}
@@ -30,7 +30,6 @@ use Rattle.wire.specs.Parse.{requestTold, frameRow, told, parseOf}
 use Rattle.wire.specs.ParseLaws.{fields-told}
 use Rattle.keyring.specs.declared.Key.{Key}
 use Rattle.keyring.specs.View.{keyOf, keysOf}
-use Rattle.memory.specs.Memory.{entriesOf}
 use Rattle.effect.specs.declared.Site.{Site}
 use Rattle.effect.specs.Effect.{mediumPut}
 use Rattle.set_key.specs.Keys.{keysPut}
@@ -47,41 +46,41 @@ use Rattle.drive.proofs.Rows.{room}
 use Rattle.drive.proofs.Grants.{medium-is, reply-is, keys-is, partition-is, memory-is}
 
 -- ---- a share's drive: its partition and memory are the frame's
-module _ (s : Share) (f : List ℕ) (z : frameRow f ≡ 0) where
+module _ (s : Share) (l : List Entry) (f : List ℕ) (z : frameRow f ≡ 0) where
   abbrev x : Fields
   x = fields f
 
-  pub alone-home : home (alone s .tables) x ≡ partitionOf (s .partition)
+  pub alone-home : home (alone s l .tables) x ≡ partitionOf (s .partition)
   unfolding alone
   alone-home = getD-replicate 4 (x .cred .partition) (partitionOf (s .partition)) (unused 0) (in-four f z)
 
-  pub alone-memory : remembered (alone s) x ≡ entriesOf (s .memory)
+  pub alone-memory : remembered (alone s l) x ≡ l
   unfolding alone remembered
-  alone-memory = getD-replicate 5 (memory x) (entriesOf (s .memory)) [] (in-five f z)
+  alone-memory = getD-replicate 5 (memory x) l [] (in-five f z)
 
-pub alone-four : (s : Share) → length (alone s .tables .partitions) ≡ 4
+pub alone-four : (s : Share) (l : List Entry) → length (alone s l .tables .partitions) ≡ 4
 unfolding alone
-alone-four s = refl
+alone-four s l = refl
 
-pub alone-five : (s : Share) → length (alone s .memories) ≡ 5
+pub alone-five : (s : Share) (l : List Entry) → length (alone s l .memories) ≡ 5
 unfolding alone
-alone-five s = refl
+alone-five s l = refl
 
 -- it has its new mark, and no outlived entry
-pub alone-fresh : (s : Share) → keep (lives (s .highwater)) (entriesOf (s .memory)) ≡ entriesOf (s .memory)
-    → refresh 0 (alone s) ≡ alone s
+pub alone-fresh : (s : Share) (l : List Entry) → keep (lives (s .highwater)) l ≡ l → refresh 0 (alone s l) ≡ alone s l
 unfolding refresh alone
-alone-fresh s h =
+alone-fresh s l h =
     let e : max (s .highwater) 0 ≡ s .highwater = omega arith in
     rw (e, h) refl
 
 -- ---- rows 8 and on
-module _ (s : Share) (m f space : List ℕ) (c : Credential) (q : ParsedRequest) (w : Ready s m f c q) where
+module _ (s : Share) (l : List Entry) (m f space : List ℕ) (c : Credential) (q : ParsedRequest)
+    (w : Ready s l m f c q) where
   abbrev y : Fields
   y = fields f
 
   abbrev keys : rules.Keys
-  keys = alone s .tables .keys
+  keys = alone s l .tables .keys
 
   pub zero-row : frameRow f ≡ 0
   zero-row = fields-told f c q (w .parsed) .0
@@ -93,15 +92,22 @@ module _ (s : Share) (m f space : List ℕ) (c : Credential) (q : ParsedRequest)
   q-is = fields-told f c q (w .parsed) .2
 
   abbrev table : List Row
-  table = driveRows (alone s) y space
+  table = driveRows (alone s l) y space
+
+  -- what is asked of the memory
+  abbrev seen-before : Bool
+  seen-before = some? (sameEntry (entryOf (y .cred) (y .req))) (remembered (alone s l) y)
+
+  abbrev entries-held : ℕ
+  entries-held = length (remembered (alone s l) y)
 
   abbrev judged : List Row
-  judged = judgeRows (s .highwater) (home (alone s .tables) y) (remembered (alone s) y) (y .cred) (y .req)
-      (placeOf (quarter (s .size)) (alone s .tables) y) (length space)
+  judged = judgeRows (s .highwater) (home (alone s l .tables) y) seen-before entries-held (y .cred) (y .req)
+      (placeOf (quarter (s .size)) (alone s l .tables) y) (length space)
 
-  table-is : table ≡ line 8 (row8 (alone s .tables) y) ∷ line 9 (row9 (alone s .tables) y) ∷ judged
+  table-is : table ≡ line 8 (row8 (alone s l .tables) y) ∷ line 9 (row9 (alone s l .tables) y) ∷ judged
   unfolding alone
-  table-is = rules-rows (alone s) y space
+  table-is = rules-rows (alone s l) y space
 
   -- the key that the code found
   module _ (key : Key) (found : keyOf key ≡ keyIn (keysOf (s .keys)) (c .partition) (c .slot)) where
@@ -112,8 +118,8 @@ module _ (s : Share) (m f space : List ℕ) (c : Credential) (q : ParsedRequest)
     pub eight : key .set ≡ false → firstRow table ≡ 8
     unfolding row8 missing
     eight h =
-        let r : row8 (alone s .tables) y ≡ true = rw (found-is, h) refl in
-        ap firstRow table-is ∙ row-here (line 8 (row8 (alone s .tables) y)) (line 9 (row9 (alone s .tables) y) ∷ judged) r
+        let r : row8 (alone s l .tables) y ≡ true = rw (found-is, h) refl in
+        ap firstRow table-is ∙ row-here (line 8 (row8 (alone s l .tables) y)) (line 9 (row9 (alone s l .tables) y) ∷ judged) r
 
     module _ (set : key .set ≡ true) where
       pub signing-is : signing keys y ≡ key .bytes
@@ -124,113 +130,116 @@ module _ (s : Share) (m f space : List ℕ) (c : Credential) (q : ParsedRequest)
       unfolding credentialKey
       credential-key = ap (λ (k : List ℕ). hmac k (y .credential)) (sym signing-is)
 
-      past8 : row8 (alone s .tables) y ≡ false
+      past8 : row8 (alone s l .tables) y ≡ false
       unfolding row8 missing
       past8 = rw (found-is, set) refl
 
-      from9 : firstRow table ≡ firstRow (line 9 (row9 (alone s .tables) y) ∷ judged)
+      from9 : firstRow table ≡ firstRow (line 9 (row9 (alone s l .tables) y) ∷ judged)
       from9 = ap firstRow table-is
-          ∙ row-next (line 8 (row8 (alone s .tables) y)) (line 9 (row9 (alone s .tables) y) ∷ judged) past8
+          ∙ row-next (line 8 (row8 (alone s l .tables) y)) (line 9 (row9 (alone s l .tables) y) ∷ judged) past8
 
       -- the digest compared
       module _ (signed : Bool)
           (compared : signed ≡ same (y .digest) (hmac (credentialKey keys y) (covered (q .level) (y .credential) (y .request) (y .payload))))
         where
-          row9-is : row9 (alone s .tables) y ≡ not signed
+          row9-is : row9 (alone s l .tables) y ≡ not signed
           unfolding row9 digestOf requestTold
           row9-is = ap not (ap (λ (l : ℕ). same (y .digest) (hmac (credentialKey keys y)
               (covered l (y .credential) (y .request) (y .payload)))) (sym (ap Request.level q-is)) ∙ sym compared)
 
           pub nine : signed ≡ false → firstRow table ≡ 9
-          nine h = from9 ∙ row-here (line 9 (row9 (alone s .tables) y)) judged (row9-is ∙ ap not h)
+          nine h = from9 ∙ row-here (line 9 (row9 (alone s l .tables) y)) judged (row9-is ∙ ap not h)
 
-          over-share : firstRow (judgeRows (s .highwater) (home (alone s .tables) y) (remembered (alone s) y) (y .cred)
-              (y .req) (cond (y .req .operation isnt 5) none (placeOf (quarter (s .size)) (alone s .tables) y)) (length space))
-              ≡ firstRow (judgeRows (s .highwater) (partitionOf (s .partition)) (entriesOf (s .memory)) c
+          over-share : firstRow (judgeRows (s .highwater) (home (alone s l .tables) y) seen-before entries-held (y .cred)
+              (y .req) (cond (y .req .operation isnt 5) none (placeOf (quarter (s .size)) (alone s l .tables) y)) (length space))
+              ≡ firstRow (judgeRows (s .highwater) (partitionOf (s .partition)) (s .replayed) (s .held) c
               (requestTold q) (placeFor (quarter (s .size)) (s .partition .objects) (requestTold q)) (length space))
           unfolding placeOf partitionOf
-          over-share = rw (alone-home s f zero-row, alone-memory s f zero-row, c-is, q-is) refl
+          over-share =
+              rw (alone-home s l f zero-row, alone-memory s l f zero-row, w .replayed, w .held, c-is, q-is) refl
 
           pub from10 : signed ≡ true
-              → firstRow table ≡ firstRow (judgeRows (s .highwater) (partitionOf (s .partition)) (entriesOf (s .memory)) c
+              → firstRow table ≡ firstRow (judgeRows (s .highwater) (partitionOf (s .partition)) (s .replayed) (s .held) c
               (requestTold q) (placeFor (quarter (s .size)) (s .partition .objects) (requestTold q)) (length space))
           from10 h =
-              from9 ∙ row-next (line 9 (row9 (alone s .tables) y)) judged (row9-is ∙ ap not h)
-              ∙ ap firstRow (sym (place-when (s .highwater) (home (alone s .tables) y) (remembered (alone s) y) (y .cred)
-              (y .req) (placeOf (quarter (s .size)) (alone s .tables) y) (length space)))
+              from9 ∙ row-next (line 9 (row9 (alone s l .tables) y)) judged (row9-is ∙ ap not h)
+              ∙ ap firstRow (sym (place-when (s .highwater) (home (alone s l .tables) y) seen-before entries-held (y .cred)
+              (y .req) (placeOf (quarter (s .size)) (alone s l .tables) y) (length space)))
               ∙ over-share
 
   -- ---- a refusal
   pub refusal-given : (r : Outcome) (n : ℕ) → firstRow table ≡ n → (n ≡ 0 → ⊥) → r .row ≡ n → r .length ≡ 0
-      → r .keys ≡ s .keys → r .partition ≡ s .partition → Given (admitted (alone s) m y space) y r m space
+      → r .keys ≡ s .keys → r .partition ≡ s .partition → Given (admitted (alone s l) m y space) y r m space
   unfolding admitted alone
-  refusal-given r n t z e l k p = subst (λ (a : Answer). Given a y r m space) (sym answer) (record {
+  refusal-given r n t z e none-long k p = subst (λ (a : Answer). Given a y r m space) (sym answer) (record {
     row = e;
-    length = l;
+    length = none-long;
     medium = refl;
     space = refl;
     keys = ap keysOf k;
-    partition = ap partitionOf p ∙ sym (alone-home s f zero-row);
+    partition = ap partitionOf p ∙ sym (alone-home s l f zero-row);
     few = subst (λ (h : Partition). h .objects .count ≤ mostObjects) (sym p) (w .few);
   })
     where
-      answer : admitted (alone s) m y space ≡ refused n (alone s) m space
+      answer : admitted (alone s l) m y space ≡ refused n (alone s l) m space
       answer = rw (t, ne-eqb n 0 z) refl
 
   -- ---- no row applies: the grant
   pub granted-given : (r : Outcome) (after replied : List ℕ) → firstRow table ≡ 0
-      → Given (granted (alone s) m y space) y r after replied → Given (admitted (alone s) m y space) y r after replied
+      → Given (granted (alone s l) m y space) y r after replied → Given (admitted (alone s l) m y space) y r after replied
   unfolding admitted
   granted-given r after replied t g = subst (λ (a : Answer). Given a y r after replied) (sym answer) g
     where
-      answer : admitted (alone s) m y space ≡ granted (alone s) m y space
+      answer : admitted (alone s l) m y space ≡ granted (alone s l) m y space
       answer = rw t refl
 
-  ready-row : row1 (alone s) m ≡ false
+  ready-row : row1 (alone s l) m ≡ false
   unfolding row1 alone
   ready-row = rw (w .sound, eq-eqb (length m) (s .size) (w .size)) refl
 
-  pub room-of : firstRow table ≡ 0 → Room (alone s) m y space
-  room-of g = room (alone s) m f space (alone-fresh s (w .fresh)) ready-row zero-row g
+  pub room-of : firstRow table ≡ 0 → Room (alone s l) m y space
+  room-of g = room (alone s l) m f space (alone-fresh s l (w .fresh)) ready-row zero-row g
 
   -- the place that was looked for
   pub placed-is : placeFor (quarter (s .size)) (s .partition .objects) (requestTold q)
-      ≡ cond (y .req .operation isnt 5) none (placeOf (quarter (s .size)) (alone s .tables) y)
+      ≡ cond (y .req .operation isnt 5) none (placeOf (quarter (s .size)) (alone s l .tables) y)
   unfolding placeOf partitionOf
-  placed-is = rw (alone-home s f zero-row, q-is) refl
+  placed-is = rw (alone-home s l f zero-row, q-is) refl
 
   pub small-size : s .size ≤ largestMedium
   unfolding alone
-  small-size = leb-true (s .size) largestMedium (small-of (alone s) (w .sound))
+  small-size = leb-true (s .size) largestMedium (small-of (alone s l) (w .sound))
 
   -- what a grant enters
   entry-is : entryOf c (requestTold q) ≡ entry y
   unfolding entryOf entry
   entry-is = rw (c-is, q-is) refl
 
-  drive-is : firstRow table ≡ 0 → driveAfter (operationOf y) y (alone s) ≡ admitted (alone s) m y space .drive
+  drive-is : firstRow table ≡ 0 → driveAfter (operationOf y) y (alone s l) ≡ admitted (alone s l) m y space .drive
   unfolding admitted granted
   drive-is t = rw t refl
 
-  pub memory-entered : firstRow table ≡ 0 → cond (length (entriesOf (s .memory)) under mostEntries)
-      (entriesOf (s .memory) ++ (entryOf c (requestTold q) ∷ [])) (entriesOf (s .memory))
-      ≡ remembered (admitted (alone s) m y space .drive) y
+  pub memory-entered : firstRow table ≡ 0
+      → l ++ (entryOf c (requestTold q) ∷ []) ≡ remembered (admitted (alone s l) m y space .drive) y
   memory-entered t =
-      ap (λ (l : List Entry). cond (length l under mostEntries) (l ++ (entryOf c (requestTold q) ∷ [])) l)
-      (sym (alone-memory s f zero-row))
-      ∙ memory-is (alone s) m f space q q-is (room-of t)
-      (cond (y .req .operation isnt 5) none (placeOf (quarter (alone s .size)) (alone s .tables) y)) refl (alone-four s)
-      (alone-five s) (in-five f zero-row) (entryOf c (requestTold q)) entry-is
+      ap (λ (h : List Entry). h ++ (entryOf c (requestTold q) ∷ [])) (sym (alone-memory s l f zero-row))
+      ∙ memory-is (alone s l) m f space q q-is (room-of t)
+      (cond (y .req .operation isnt 5) none (placeOf (quarter (alone s l .size)) (alone s l .tables) y)) refl (alone-four s l)
+      (alone-five s l) (in-five f zero-row) (entryOf c (requestTold q)) entry-is
       ∙ ap (λ (b : rules.Drive). remembered b y) (drive-is t)
 
+  -- there is room for it
+  pub memory-room : firstRow table ≡ 0 → length l < mostEntries
+  memory-room t = subst (λ (h : List Entry). length h < mostEntries) (alone-memory s l f zero-row) (room-of t .entries)
+
 -- ---- the parts of a grant
-module _ (s : Share) (seen : Mac) (k m f space : List ℕ) (c : Credential) (q : ParsedRequest) (start : Option ℕ)
-    (g : Granting s seen k m f space c q start) where
+module _ (s : Share) (l : List Entry) (seen : Mac) (k m f space : List ℕ) (c : Credential) (q : ParsedRequest)
+    (start : Option ℕ) (g : Granting s l seen k m f space c q start) where
   abbrev v : Fields
   v = fields f
 
   abbrev d : rules.Drive
-  d = alone s
+  d = alone s l
 
   zero-g : frameRow f ≡ 0
   zero-g = fields-told f c q (g .parsed) .0
@@ -246,7 +255,7 @@ module _ (s : Share) (seen : Mac) (k m f space : List ℕ) (c : Credential) (q :
 
   site-g : here ≡ siteOf (d .size) (home (d .tables) v) (v .cred) start
   unfolding alone
-  site-g = rw (alone-home s f zero-g, c-g) refl
+  site-g = rw (alone-home s l f zero-g, c-g) refl
 
   placed-g : start ≡ cond (v .req .operation isnt 5) none (placeOf (quarter (d .size)) (d .tables) v)
   unfolding alone
@@ -278,7 +287,7 @@ module _ (s : Share) (seen : Mac) (k m f space : List ℕ) (c : Credential) (q :
   unfolding granted
   partition-g =
       ap (λ (h : Site). partitionAfter (q .operation) (c .object) (h .next) (h .place) (partitionOf (s .partition))) site-g
-      ∙ rw (c-g, ← alone-home s f zero-g) (partition-is d m f space q q-g (g .room) start placed-g (alone-four s) (alone-five s) (in-five f zero-g))
+      ∙ rw (c-g, ← alone-home s l f zero-g) (partition-is d m f space q q-g (g .room) start placed-g (alone-four s l) (alone-five s l) (in-five f zero-g))
 
   pub small-g : s .size ≤ largestMedium
   unfolding alone

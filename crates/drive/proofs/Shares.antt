@@ -5,10 +5,10 @@ use mathlib.Core.List.{List, [], _∷_, _++_, map}
 use Prim.Native.Nat.{ℕ, _≤_, _<_}
 use native.Mathlib.Omega.{arith}
 use lib.Dec.{leb}
-use lib.ListN.{length, getD, set, replicate}
+use lib.ListN.{length, getD, set}
 use borrow.Author.Tests.{leb-true, eq-eqb}
 use Rattle.lemmas.specs.Tests.{_is_, _isnt_, _under_, both}
-use Rattle.lemmas.specs.Lists.{every, keep, update}
+use Rattle.lemmas.specs.Lists.{every, keep, some?, update}
 use Rattle.lemmas.specs.ListLaws.{nth-map, every-nth, every-kept, every-imp, set-update}
 use Rattle.rules.specs.declared.Entry.{Entry}
 use Rattle.rules.specs.declared.Object.{Object}
@@ -20,6 +20,7 @@ use Rattle.rules.specs.Drive.{
   lives,
   mostObjects,
   mostEntries,
+  sameEntry,
   newHighWater,
   refresh,
   sound,
@@ -39,22 +40,22 @@ use Rattle.wire.specs.Parse.{frameRow, told, parseOf, requestTold}
 use Rattle.judge.specs.Judge.{entryOf}
 use Rattle.wire.specs.ParseLaws.{fields-told}
 use Rattle.keyring.specs.View.{keysOf}
-use Rattle.memory.specs.declared.Memory.{Memory}
-use Rattle.memory.specs.Memory.{entriesOf, noEntry}
+use Rattle.memory.specs.Memory.{entries}
 use Rattle.partition.specs.declared.Partition.{Partition}
-use Rattle.partition.specs.Padded.{padded, padded-is}
+use Rattle.partition.specs.Padded.{padded}
 use Rattle.partition.specs.Partition.{partitionOf, viewed, viewed-is}
 use Rattle.drive.specs.declared.Drive.{Drive}
 use Rattle.drive.specs.declared.Answer.{Answer}
 use Rattle.drive.specs.declared.Share.{Share}
 use Rattle.drive.specs.declared.Outcome.{Outcome}
-use Rattle.drive.specs.View.{view, entered, few, short, Counted}
+use Rattle.drive.specs.View.{view, memoriesIn, few, short, Placed, Counted}
 use Rattle.drive.specs.Share.{alone, admitted, Ready, Given}
 use Rattle.drive.specs.Met.{callOf, GateMet}
 use Rattle.drive.proofs.Frames.{in-four, in-five}
-use Rattle.drive.proofs.Turned.{noMemory, noPartition, entered-is}
-use Rattle.drive.proofs.Serving.{alone-home, alone-memory, memory-entered}
-use Rattle.drive.proofs.Whole.{putBack, backIn, admitted-back}
+use Rattle.drive.proofs.Turned.{noPartition}
+use Rattle.drive.proofs.Memories.{held-long}
+use Rattle.drive.proofs.Serving.{alone-home, alone-memory, memory-entered, memory-room}
+use Rattle.drive.proofs.Whole.{putBack, backIn, admitted-back, update-to}
 use Rattle.drive.proofs.Gates.{gate-admitted, admitted-zero, admitted-refused, drive-not-1, meets}
 
 -- ---- row 1's test as the code makes it
@@ -88,27 +89,31 @@ module _ (d₀ d : Drive) (clock : ℕ) (v : view d ≡ refresh clock (view d₀
   zero : frameRow f ≡ 0
   zero = fields-told f c q parsed .0
 
+  k-low : k < 5
+  k-low = let h = in-five f zero in omega (arith, k-is)
+
   abbrev part : Partition
   part = getD (d .partitions) i noPartition
 
-  abbrev mem : Memory
-  mem = getD (d .memories) k noMemory
+  abbrev all-entries : List Entry
+  all-entries = entries (d .slots) (d .holders) (d .times) (d .counts)
 
-  abbrev share : Share
-  share = record {
-    size = d .size;
-    highwater = d .highwater;
-    keys = d .keys;
-    partition = part;
-    memory = mem;
-  }
+  abbrev all-memories : List (List Entry)
+  all-memories = memoriesIn (d .lengths) all-entries
+
+  -- the entries of memory k
+  abbrev mem : List Entry
+  mem = getD all-memories k []
 
   few-part : part .objects .count ≤ mostObjects
   few-part = leb-true (part .objects .count) mostObjects
       (every-nth few (d .partitions) i noPartition refl (counted .objects))
 
-  short-mem : mem .count ≤ mostEntries
-  short-mem = leb-true (mem .count) mostEntries (every-nth short (d .memories) k noMemory refl (counted .entries))
+  abbrev placed : Placed (d .lengths) (d .slots) (d .holders) (d .times) (d .counts)
+  placed = counted .memories
+
+  mem-long : getD (d .lengths) k 0 ≡ length mem
+  mem-long = held-long (d .lengths) (d .slots) (d .holders) (d .times) (d .counts) placed k k-low
 
   -- ---- the share is the frame's own part of the drive
   home-is : home (view d .tables) x ≡ partitionOf part
@@ -116,11 +121,9 @@ module _ (d₀ d : Drive) (clock : ℕ) (v : view d ≡ refresh clock (view d₀
   home-is = ap (λ (j : ℕ). getD (map viewed (d .partitions)) j (unused 0)) (sym i-is)
       ∙ nth-map viewed (d .partitions) i noPartition ∙ viewed-is part few-part
 
-  held-is : remembered (view d) x ≡ entriesOf mem
-  unfolding view remembered entered padded
-  held-is = ap (λ (j : ℕ). getD (map entered (d .memories)) j []) (sym k-is)
-      ∙ nth-map entered (d .memories) k noMemory
-      ∙ padded-is mostEntries noEntry (mem .count) (mem .entries) short-mem
+  held-is : remembered (view d) x ≡ mem
+  unfolding view remembered
+  held-is = ap (λ (j : ℕ). getD all-memories j []) (sym k-is)
 
   sound-d : sound (view d) ≡ true
   sound-d = ap sound v ∙ refresh-sound clock (view d₀) whole
@@ -130,102 +133,134 @@ module _ (d₀ d : Drive) (clock : ℕ) (v : view d ≡ refresh clock (view d₀
   sound-part = ap (soundPartition (quarter (d .size))) (sym home-is)
       ∙ at-sound (quarter (view d .size)) (view d .tables) (x .cred .partition) (tables-of (view d) sound-d)
 
-  sound-mem : leb (length (entriesOf mem)) mostEntries ≡ true
+  sound-mem : leb (length mem) mostEntries ≡ true
   unfolding remembered
   sound-mem = ap (λ (l : List Entry). leb (length l) mostEntries) (sym held-is)
       ∙ every-nth short-list (view d .memories) (memory x) [] refl (memories-of (view d) sound-d)
 
-  sound-share : sound (alone share) ≡ true
-  unfolding sound alone every view
-  sound-share = rw (small-of (view d) sound-d, sound-part, sound-mem) refl
-
-  fresh-share : keep (lives (d .highwater)) (entriesOf mem) ≡ entriesOf mem
+  fresh-share : keep (lives (d .highwater)) mem ≡ mem
   unfolding remembered refresh view keep
   fresh-share =
       let mark : d .highwater ≡ newHighWater (d₀ .highwater) clock = ap (λ (e : rules.Drive). e .tables .highWater) v in
       let l : List Entry = getD (view d₀ .memories) (memory x) [] in
-      let held : entriesOf mem ≡ keep (lives (newHighWater (d₀ .highwater) clock)) l =
+      let held : mem ≡ keep (lives (newHighWater (d₀ .highwater) clock)) l =
       sym held-is ∙ ap (λ (e : rules.Drive). getD (e .memories) (memory x) []) v
       ∙ nth-map (keep (lives (newHighWater (d₀ .highwater) clock))) (view d₀ .memories) (memory x) [] in
       rw (mark, held) (keep-again (lives (newHighWater (d₀ .highwater) clock)) l)
-
-  pub ready : Ready share m f c q
-  unfolding view refresh
-  ready = record {
-    parsed = parsed;
-    size = size ∙ sym (ap (λ (e : rules.Drive). e .size) v);
-    sound = sound-share;
-    fresh = fresh-share;
-    few = few-part;
-    short = short-mem;
-  }
 
   row1-no : row1 (view d₀) m ≡ false
   unfolding view row1
   row1-no = ready-row1 (view d₀) m true (rw (whole, eq-eqb (length m) (d₀ .size) size) refl)
 
-  -- ---- an outcome, and what the gate makes of it
-  module _ (space : List ℕ) (out : Outcome) (after replied : List ℕ)
-      (given : Given (admitted (alone share) m x space) x out after replied) where
-    abbrev a : rules·gate.Answer
-    a = admitted (alone share) m x space
+  -- ---- the share, of which the code found out whether its memory holds the nonce
+  module _ (replayed : Bool) (found : replayed ≡ some? (sameEntry (entryOf c (requestTold q))) mem) where
+    abbrev share : Share
+    share = record {
+      size = d .size;
+      highwater = d .highwater;
+      keys = d .keys;
+      partition = part;
+      replayed = replayed;
+      held = getD (d .lengths) k 0;
+    }
 
-    whole-is : admitted (view d) m x space ≡ backIn (view d) x a
-    unfolding alone view
-    whole-is = admitted-back (view d) (alone share) x refl refl refl
-        (alone-home share f zero ∙ sym home-is) (alone-memory share f zero ∙ sym held-is) refl (in-four f zero) refl
-        (in-five f zero) m space
+    sound-share : sound (alone share mem) ≡ true
+    unfolding sound alone every view
+    sound-share = rw (small-of (view d) sound-d, sound-part, sound-mem) refl
 
-    gate-is : gate (view d₀) m (callOf f clock space) ≡ admitted (view d) m x space
-    gate-is = gate-admitted (view d₀) m f clock space row1-no zero ∙ ap (λ (e : rules.Drive). admitted e m x space) (sym v)
+    pub ready : Ready share mem m f c q
+    unfolding view refresh
+    ready = record {
+      parsed = parsed;
+      size = size ∙ sym (ap (λ (e : rules.Drive). e .size) v);
+      sound = sound-share;
+      fresh = fresh-share;
+      replayed = found;
+      held = mem-long;
+      few = few-part;
+    }
 
-    not-1 : out .row ≡ 1 → ⊥
-    not-1 k = drive-not-1 (alone share) m x space (sym (given .row) ∙ k)
+    -- ---- an outcome, and what the gate makes of it
+    module _ (space : List ℕ) (out : Outcome) (after replied : List ℕ)
+        (given : Given (admitted (alone share mem) m x space) x out after replied) where
+      abbrev a : rules·gate.Answer
+      a = admitted (alone share mem) m x space
 
-    -- a refusal leaves the drive
-    pub met-refused : (out .row ≡ 0 → ⊥) → (r : Answer) → r .row ≡ out .row → r .length ≡ 0 → r .drive ≡ d
-        → GateMet d₀ m (callOf f clock space) r after replied
-    met-refused z r row none e =
-        meets d₀ m (callOf f clock space) r after replied (admitted (view d) m x space) gate-is
-        (row ∙ given .row ∙ sym (ap (λ (b : rules·gate.Answer). b .row) whole-is))
-        (none ∙ sym (admitted-refused (view d) m x space zero-no .0)) (ap view e ∙ sym (admitted-refused (view d) m x space zero-no .1))
-        (λ k. absurd (not-1 (sym row ∙ k)))
-        (given .medium ∙ sym (ap (λ (b : rules·gate.Answer). b .medium) whole-is))
-        (given .space ∙ sym (ap (λ (b : rules·gate.Answer). b .space) whole-is))
-      where
-        zero-no : admitted (view d) m x space .row ≡ 0 → ⊥
-        zero-no k = z (given .row ∙ sym (ap (λ (b : rules·gate.Answer). b .row) whole-is) ∙ k)
+      whole-is : admitted (view d) m x space ≡ backIn (view d) x a
+      unfolding alone view
+      whole-is = admitted-back (view d) (alone share mem) x refl refl refl
+          (alone-home share mem f zero ∙ sym home-is) (alone-memory share mem f zero ∙ sym held-is) refl (in-four f zero) refl
+          (in-five f zero) m space
 
-    -- a grant is put back, and its nonce entered
-    module _ (grant : out .row ≡ 0) (held : Memory)
-        (entries : entriesOf held ≡ cond (length (entriesOf mem) under mostEntries)
-        (entriesOf mem ++ (entryOf c (requestTold q) ∷ [])) (entriesOf mem)) (few-held : held .count ≤ mostEntries) where
-      abbrev back : Drive
-      back = record {
-        size = d .size;
-        highwater = d .highwater;
-        keys = out .keys;
-        partitions = set (d .partitions) i (out .partition);
-        memories = set (d .memories) k held;
-      }
+      gate-is : gate (view d₀) m (callOf f clock space) ≡ admitted (view d) m x space
+      gate-is = gate-admitted (view d₀) m f clock space row1-no zero ∙ ap (λ (e : rules.Drive). admitted e m x space) (sym v)
 
-      held-in : entered held ≡ remembered (a .drive) x
-      held-in = entered-is held few-held ∙ entries
-          ∙ memory-entered share m f space c q ready (admitted-zero (alone share) m x space (sym (given .row) ∙ grant))
+      not-1 : out .row ≡ 1 → ⊥
+      not-1 k = drive-not-1 (alone share mem) m x space (sym (given .row) ∙ k)
 
-      back-is : view back ≡ putBack (view d) x (a .drive)
-      unfolding view
-      back-is = rw (
-        set-update viewed (d .partitions) i (out .partition) (home (a .drive .tables) x)
-            (viewed-is (out .partition) (given .few) ∙ given .partition),
-        set-update entered (d .memories) k held (remembered (a .drive) x) held-in,
-        given .keys,
-        i-is,
-        k-is,
-      ) refl
+      -- a refusal leaves the drive
+      pub met-refused : (out .row ≡ 0 → ⊥) → (r : Answer) → r .row ≡ out .row → r .length ≡ 0 → r .drive ≡ d
+          → GateMet d₀ m (callOf f clock space) r after replied
+      met-refused z r row none e =
+          meets d₀ m (callOf f clock space) r after replied (admitted (view d) m x space) gate-is
+          (row ∙ given .row ∙ sym (ap (λ (b : rules·gate.Answer). b .row) whole-is))
+          (none ∙ sym (admitted-refused (view d) m x space zero-no .0)) (ap view e ∙ sym (admitted-refused (view d) m x space zero-no .1))
+          (λ k. absurd (not-1 (sym row ∙ k)))
+          (given .medium ∙ sym (ap (λ (b : rules·gate.Answer). b .medium) whole-is))
+          (given .space ∙ sym (ap (λ (b : rules·gate.Answer). b .space) whole-is))
+        where
+          zero-no : admitted (view d) m x space .row ≡ 0 → ⊥
+          zero-no k = z (given .row ∙ sym (ap (λ (b : rules·gate.Answer). b .row) whole-is) ∙ k)
 
-      pub met-granted : GateMet d₀ m (callOf f clock space) (record { row = 0; length = out .length; drive = back }) after
-          replied
-      met-granted = meets d₀ m (callOf f clock space) (record { row = 0; length = out .length; drive = back }) after replied
-          (backIn (view d) x a) (gate-is ∙ whole-is) (sym grant ∙ given .row) (given .length) back-is
-          (λ e. absurd (not-1 (grant ∙ e))) (given .medium) (given .space)
+      -- a grant is put back, and its nonce entered
+      module _ (grant : out .row ≡ 0) where
+        no-row : admitted (alone share mem) m x space .row ≡ 0
+        no-row = sym (given .row) ∙ grant
+
+        -- there is room for it
+        pub has-room : getD (d .lengths) k 0 < mostEntries
+        has-room =
+            let room = memory-room share mem m f space c q ready (admitted-zero (alone share mem) m x space no-row) in
+            omega (arith, mem-long)
+
+        module _ (nonce : Entry) (is-nonce : nonce ≡ entryOf c (requestTold q)) (ns s h t n : List ℕ)
+            (entered : memoriesIn ns (entries s h t n) ≡ update k (λ (old : List Entry). old ++ (nonce ∷ [])) all-memories) where
+          abbrev back : Drive
+          back = record {
+            size = d .size;
+            highwater = d .highwater;
+            keys = out .keys;
+            partitions = set (d .partitions) i (out .partition);
+            lengths = ns;
+            slots = s;
+            holders = h;
+            times = t;
+            counts = n;
+          }
+
+          held-in : mem ++ (nonce ∷ []) ≡ remembered (a .drive) x
+          held-in = ap (λ (e : Entry). mem ++ (e ∷ [])) is-nonce
+              ∙ memory-entered share mem m f space c q ready (admitted-zero (alone share mem) m x space no-row)
+
+          memories-in : memoriesIn ns (entries s h t n)
+              ≡ update k (λ (old : List Entry). remembered (a .drive) x) all-memories
+          memories-in = entered
+              ∙ update-to k (λ (old : List Entry). old ++ (nonce ∷ [])) all-memories [] (remembered (a .drive) x) held-in
+
+          back-is : view back ≡ putBack (view d) x (a .drive)
+          unfolding view
+          back-is = rw (
+            set-update viewed (d .partitions) i (out .partition) (home (a .drive .tables) x)
+                (viewed-is (out .partition) (given .few) ∙ given .partition),
+            memories-in,
+            given .keys,
+            i-is,
+            k-is,
+          ) refl
+
+          pub met-granted : (r : Answer) → r ≡ record { row = 0; length = out .length; drive = back }
+              → GateMet d₀ m (callOf f clock space) r after replied
+          met-granted r e = subst (λ (b : Answer). GateMet d₀ m (callOf f clock space) b after replied) (sym e)
+              (meets d₀ m (callOf f clock space) (record { row = 0; length = out .length; drive = back }) after replied
+              (backIn (view d) x a) (gate-is ∙ whole-is) (sym grant ∙ given .row) (given .length) back-is
+              (λ k. absurd (not-1 (grant ∙ k))) (given .medium) (given .space))

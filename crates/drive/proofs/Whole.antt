@@ -47,7 +47,7 @@ use Rattle.drive.specs.Share.{admitted}
 
 -- ---- one element of a list, changed
 module _ {A : Type 0} where
-  update-to : (i : ℕ) (g : A → A) (l : List A) (d v : A) → g (getD l i d) ≡ v → update i g l ≡ update i (λ (a : A). v) l
+  pub update-to : (i : ℕ) (g : A → A) (l : List A) (d v : A) → g (getD l i d) ≡ v → update i g l ≡ update i (λ (a : A). v) l
   unfolding update
   update-to i g [] d v e = refl
   update-to zero g (x ∷ l) d v e = ap (λ (a : A). a ∷ l) e

@@ -10,6 +10,7 @@ use Rattle.lemmas.specs.Lists.{find}
 use Rattle.digest.specs.declared.mac.Mac.{Mac}
 use Rattle.digest.specs.Stream.{Keyed}
 use Rattle.rules.specs.declared.Credential.{Credential}
+use Rattle.rules.specs.declared.Entry.{Entry}
 use Rattle.rules.specs.declared.Object.{Object}
 use Rattle.rules.specs.Frame.{Fields, fields, operationOf, write, create, memory}
 use Rattle.rules.specs.Drive as rules
@@ -68,13 +69,19 @@ pub record Room (d : rules.Drive) (m : List ℕ) (x : Fields) (space : List ℕ)
 
 -- a grant's beginning: the parsed frame, room for everything, the keyed hash that took credential and request, the key
 -- in the slot, the place of a new extent
-pub record Granting (s : Share) (seen : Mac) (k m f space : List ℕ) (c : Credential) (q : ParsedRequest)
-    (start : Option ℕ) : Type 0 where
+pub record Granting (s : Share) (l : List Entry) (seen : Mac) (k m f space : List ℕ) (c : Credential)
+    (q : ParsedRequest) (start : Option ℕ) : Type 0 where
   pub parsed : told (Parsed·Fields c q) ≡ parseOf f
   pub long : length f ≡ 96 + fields f .req .n
-  pub room : Room (alone s) m (fields f) space
-  pub keyed : Keyed seen (credentialKey (alone s .tables .keys) (fields f)) (fields f .credential ++ fields f .request)
-  pub key : k ≡ signing (alone s .tables .keys) (fields f)
+  pub room : Room (alone s l) m (fields f) space
+  pub keyed : Keyed seen (credentialKey (alone s l .tables .keys) (fields f)) (fields f .credential ++ fields f .request)
+  pub key : k ≡ signing (alone s l .tables .keys) (fields f)
   pub place : start
-      ≡ cond (fields f .req .operation isnt 5) none (placeOf (quarter (s .size)) (alone s .tables) (fields f))
+      ≡ cond (fields f .req .operation isnt 5) none (placeOf (quarter (s .size)) (alone s l .tables) (fields f))
   pub few : s .partition .objects .count ≤ mostObjects
+
+-- the same, of some memory
+pub record Granted (s : Share) (seen : Mac) (k m f space : List ℕ) (c : Credential) (q : ParsedRequest)
+    (start : Option ℕ) : Type 0 where
+  pub memory : List Entry
+  pub granting : Granting s memory seen k m f space c q start

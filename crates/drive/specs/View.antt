@@ -1,41 +1,52 @@
 -- Document 01, "Drive state": the drive record as the rules see it, whatever its fields hold.
 use mathlib.Core.Path.{_≡_}
 use mathlib.Core.Bool.{Bool, true}
-use mathlib.Core.List.{List, map}
-use lib.ListN.{length}
+use mathlib.Core.List.{List, [], _∷_, map}
+use Prim.Native.Nat.{ℕ}
+use lib.ListN.{length, take, drop}
 use lib.Dec.{leb}
 use Rattle.lemmas.specs.Lists.{every}
 use Rattle.rules.specs.declared.Entry.{Entry}
 use Rattle.rules.specs.Drive as rules
 use Rattle.rules.specs.Drive.{mostObjects, mostEntries}
 use Rattle.keyring.specs.View.{keysOf}
-use Rattle.memory.specs.declared.Memory.{Memory}
-use Rattle.memory.specs.Memory.{noEntry}
+use Rattle.memory.specs.Memory.{entries, noEntry}
 use Rattle.partition.specs.Padded.{padded}
 use Rattle.partition.specs.declared.Partition.{Partition}
 use Rattle.partition.specs.Partition.{viewed}
 use Rattle.drive.specs.declared.Drive.{Drive}
 
--- a memory's entries; a count over the array's length is that many, so that no such record is sound
-unfoldable pub entered : Memory → List Entry
-entered m = padded mostEntries noEntry (m .count) (m .entries)
+-- the memories, by their lengths: each has 64 places of its own, one after the other, and its entries stand first in them. A
+-- length over 64 is that many entries, so that no such record is sound
+unfoldable pub memoriesIn : List ℕ → List Entry → List (List Entry)
+memoriesIn [] l = []
+memoriesIn (n ∷ ns) l =
+    padded mostEntries noEntry n (take mostEntries l) ∷ memoriesIn ns (drop mostEntries l)
 
 unfoldable pub view : Drive → rules.Drive
 view d = record {
   size = d .size;
   tables = record { highWater = d .highwater; keys = keysOf (d .keys); partitions = map viewed (d .partitions) };
-  memories = map entered (d .memories);
+  memories = memoriesIn (d .lengths) (entries (d .slots) (d .holders) (d .times) (d .counts));
 }
 
 -- ---- a record of which no count passes its array, as every sound one is
 abbrev pub few : Partition → Bool
 few p = leb (p .objects .count) mostObjects
 
-abbrev pub short : Memory → Bool
-short m = leb (m .count) mostEntries
+abbrev pub short : ℕ → Bool
+short n = leb n mostEntries
+
+-- five lengths (ns), none over 64, and as many slots, holders, times and counts as five memories have places
+pub record Placed (ns s h t n : List ℕ) : Type 0 where
+  pub five : length ns ≡ 5
+  pub entries : every short ns ≡ true
+  pub slots : length s ≡ 320
+  pub holders : length h ≡ 320
+  pub times : length t ≡ 320
+  pub counts : length n ≡ 320
 
 pub record Counted (d : Drive) : Type 0 where
   pub objects : every few (d .partitions) ≡ true
-  pub entries : every short (d .memories) ≡ true
   pub four : length (d .partitions) ≡ 4
-  pub five : length (d .memories) ≡ 5
+  pub memories : Placed (d .lengths) (d .slots) (d .holders) (d .times) (d .counts)

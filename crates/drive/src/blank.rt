@@ -9,13 +9,11 @@ ghost use Rattle.lemmas.specs.Rows.{line, firstRow};
 ghost use Rattle.rules.specs.Drive.{largestMedium, unused, newTables, newDrive};
 ghost use Rattle.keyring.specs.View.{keyOf};
 ghost use Rattle.partition.specs.Partition.{viewed};
-ghost use Rattle.drive.specs.View.{entered, view};
+ghost use Rattle.drive.specs.View.{view};
 use super::Drive;
 use keyring::Key;
 use keyring::Keys;
-use memory::Memory;
 use partition::Partition;
-use rules::Entry;
 use rules::Object;
 use state::Objects;
 
@@ -60,27 +58,6 @@ fn unused_partition(first: u32) -> Partition
     }
 }
 
-// A replay memory that holds nothing. It is filled by a loop so that a compiler that sees the fill keeps the array in one
-// piece: of a fill in one step it made 320 values of their own, and copied them one by one in every call of the gate.
-fn empty_memory() -> Memory
-    ensures { λ r. ⌜ entered r ≡ [] ⌝ }
-{
-    let nothing = Entry {
-        slot: 0,
-        holder: 0,
-        time: 0,
-        count: 0,
-    };
-    let entries = [nothing; 64];
-    let mut r = Memory { entries, count: 0 };
-    let mut i = 0;
-    while i < 64 {
-        r.entries[i] = nothing;
-        i += 1;
-    }
-    r
-}
-
 // The drive of a medium of so many bytes: no object exists, no partition or working key is set, each partition's version
 // is the first, the mark is 0.
 pub fn new_drive(size: usize, first: u32, master: Key, drive: Key) -> Drive
@@ -88,7 +65,6 @@ pub fn new_drive(size: usize, first: u32, master: Key, drive: Key) -> Drive
 {
     let none = keyring::no_key();
     let partition = unused_partition(first);
-    let memory = empty_memory();
     let keys = Keys {
         master,
         drive,
@@ -101,6 +77,10 @@ pub fn new_drive(size: usize, first: u32, master: Key, drive: Key) -> Drive
         highwater: 0,
         keys,
         partitions: [partition; 4],
-        memories: [memory; 5],
+        lengths: [0; 5],
+        slots: [0; 320],
+        holders: [0; 320],
+        times: [0; 320],
+        counts: [0; 320],
     }
 }

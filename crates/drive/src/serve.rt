@@ -7,6 +7,7 @@ ghost use Prim.Native.Nat.{ℕ, _+_, _<_, _≤_};
 ghost use lib.ListN.{length, take};
 ghost use Rattle.lemmas.specs.Tests.{_under_};
 ghost use Rattle.lemmas.specs.Lists.{same};
+ghost use Rattle.rules.specs.declared.Entry.{Entry};
 ghost use Rattle.digest.specs.Hmac.{hmac};
 ghost use Rattle.digest.specs.Stream.{Keyed};
 ghost use Rattle.rules.specs.Drive.{largestMedium};
@@ -14,8 +15,8 @@ ghost use Rattle.rules.specs.Frame.{fields, covered};
 ghost use Rattle.rules.specs.Gate.{granted};
 ghost use Rattle.placing.specs.Placing.{told};
 ghost use Rattle.partition.specs.Partition.{partitionOf};
-ghost use Rattle.drive.specs.Share.{alone, admitted, Ready, Given};
-ghost use Rattle.drive.specs.Site.{siteOf, Granting};
+ghost use Rattle.drive.specs.Share.{alone, admitted, Ready, Readied, Given};
+ghost use Rattle.drive.specs.Site.{siteOf, Granting, Granted};
 use super::Outcome;
 use super::Share;
 use digest::mac;
@@ -106,8 +107,9 @@ fn grant(
     q: ParsedRequest,
     place: Place,
 ) -> Outcome
-    requires { ⌜ Granting share seen (now key) (now medium) (now frame) (now reply) c q (told place) ⌝ }
-    ensures { λ r. ⌜ Given (granted (alone share) (now (medium .entry)) (fields (now (frame .entry))) (now (reply .entry))) (fields (now (frame .entry))) r (now (medium .exit)) (now (reply .exit)) ⌝ }
+    requires { ⌜ Granted share seen (now key) (now medium) (now frame) (now reply) c q (told place) ⌝ }
+    ensures { λ r. ⌜ ((l : List Entry) → Granting share l seen (now (key .entry)) (now (medium .entry)) (now (frame .entry)) (now (reply .entry)) c q (told place)
+        → Given (granted (alone share l) (now (medium .entry)) (fields (now (frame .entry))) (now (reply .entry))) (fields (now (frame .entry))) r (now (medium .exit)) (now (reply .exit))) ⌝ }
 {
     let r = wire::numbers(q);
     let o = q.operation;
@@ -148,12 +150,12 @@ pub fn serve(
     c: Credential,
     q: ParsedRequest,
 ) -> Outcome
-    requires { ⌜ Ready share (now medium) (now frame) c q ⌝ }
-    ensures { λ r. ⌜ Given (admitted (alone share) (now (medium .entry)) (fields (now (frame .entry))) (now (reply .entry))) (fields (now (frame .entry))) r (now (medium .exit)) (now (reply .exit)) ⌝ }
+    requires { ⌜ Readied share (now medium) (now frame) c q ⌝ }
+    ensures { λ r. ⌜ ((l : List Entry) → Ready share l (now (medium .entry)) (now (frame .entry)) c q
+        → Given (admitted (alone share l) (now (medium .entry)) (fields (now (frame .entry))) (now (reply .entry))) (fields (now (frame .entry))) r (now (medium .exit)) (now (reply .exit))) ⌝ }
 {
     let keys = share.keys;
     let p = share.partition;
-    let m = share.memory;
     let os = p.objects;
     let key = keyring::key_in(keys, c.partition as usize, c.slot);
     if !key.set {
@@ -165,7 +167,16 @@ pub fn serve(
         return refusal(9, share);
     }
     let place = judge::place_for(os, (share.size / 4) as u32, wire::numbers(q));
-    let row = judge::judge(share.highwater, p, m, c, q, place, reply.len());
+    let row = judge::judge(
+        share.highwater,
+        p,
+        share.replayed,
+        share.held,
+        c,
+        q,
+        place,
+        reply.len(),
+    );
     if row != 0 {
         return refusal(row, share);
     }

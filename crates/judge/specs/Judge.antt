@@ -1,5 +1,6 @@
--- Document 01, rows 10 to 23, of one partition and one replay memory, and that they are the rules' own.
--- mark: the drive's time. p: the partition. l: the memory's entries. c, r: the numbers of credential and request.
+-- Document 01, rows 10 to 23, of one partition and what is known of one replay memory, and that they are the rules' own.
+-- mark: the drive's time. p: the partition. replayed: whether the memory holds the frame's nonce. held: how many entries it
+-- has. c, r: the numbers of credential and request.
 use mathlib.Core.Path.{_≡_, refl, ap, sym, _∙_}
 use mathlib.Core.Bool.{Bool, true, false, not, _&&_, _||_, cond}
 use mathlib.Core.Option.{Option, none, Option·getD}
@@ -63,11 +64,11 @@ abbrev pub presentIn : Partition → ℕ → Target → ℕ
 presentIn p n t = cond (n is 0) (p .version) (t .object .version)
 
 -- ---- the rows, `rest` being the answer where none of them applies
-abbrev pub timeRow : ℕ → List Entry → Credential → ℕ → Request → ℕ → ℕ
-timeRow mark l c operation r rest =
+abbrev pub timeRow : ℕ → Bool → Credential → ℕ → Request → ℕ → ℕ
+timeRow mark replayed c operation r rest =
     cond (expired mark (c .expiry)) 10
     (cond (untimely mark (r .time)) 11
-    (cond (some? (sameEntry (entryOf c r)) l) 12 (cond (not (bit (operation - 1) (c .rights))) 13 rest)))
+    (cond replayed 12 (cond (not (bit (operation - 1) (c .rights))) 13 rest)))
 
 abbrev pub objectRow : Credential → Request → Target → ℕ → ℕ → ℕ
 objectRow c r t version rest =
@@ -76,23 +77,23 @@ objectRow c r t version rest =
     (cond (moves r && outOfRange (c .first) (c .end) (r .A) (r .B)) 16
     (cond (moves r && r .A + r .B over t .object .size) 17 rest)))
 
-abbrev pub roomRow : rules.Partition Object → List Entry → Request → Option ℕ → ℕ → ℕ
-roomRow p l r place space =
+abbrev pub roomRow : rules.Partition Object → ℕ → Request → Option ℕ → ℕ → ℕ
+roomRow p held r place space =
     cond (r .operation is 5 && not (missing (find Object.number (r .A) (p .objects)))) 18
     (cond (r .operation is 5 && length (p .objects) is mostObjects) 19
     (cond (r .operation is 5 && missing place) 20
     (cond (gives r && p .last is 4_294_967_295) 21
-    (cond (length l is mostEntries) 22 (cond (space under replyLength r) 23 0)))))
+    (cond (held is mostEntries) 22 (cond (space under replyLength r) 23 0)))))
 
 -- ---- the same as a table
 abbrev pub versionOf : rules.Partition Object → ℕ → ℕ
 versionOf p n = cond (n is 0) (p .version) (Option·getD (find Object.number n (p .objects)) noObject .version)
 
-unfoldable pub judgeRows : ℕ → rules.Partition Object → List Entry → Credential → Request → Option ℕ → ℕ → List Row
-judgeRows mark p l c r place space =
+unfoldable pub judgeRows : ℕ → rules.Partition Object → Bool → ℕ → Credential → Request → Option ℕ → ℕ → List Row
+judgeRows mark p replayed held c r place space =
     line 10 (expired mark (c .expiry))
     ∷ line 11 (untimely mark (r .time))
-    ∷ line 12 (some? (sameEntry (entryOf c r)) l)
+    ∷ line 12 replayed
     ∷ line 13 (not (bit (r .operation - 1) (c .rights)))
     ∷ line 14 (c .object isnt 0 && missing (find Object.number (c .object) (p .objects)))
     ∷ line 15 (r .operation under 7 && c .version isnt versionOf p (c .object))
@@ -102,14 +103,15 @@ judgeRows mark p l c r place space =
     ∷ line 19 (r .operation is 5 && length (p .objects) is mostObjects)
     ∷ line 20 (r .operation is 5 && missing place)
     ∷ line 21 (gives r && p .last is 4_294_967_295)
-    ∷ line 22 (length l is mostEntries)
+    ∷ line 22 (held is mostEntries)
     ∷ line 23 (space under replyLength r)
     ∷ []
 
 -- ---- they are the rules' rows
 pub rules-rows : (d : Drive) (x : Fields) (space : List ℕ) → driveRows d x space
     ≡ line 8 (row8 (d .tables) x) ∷ line 9 (row9 (d .tables) x) ∷ judgeRows (d .tables .highWater) (home (d .tables) x)
-    (remembered d x) (x .cred) (x .req) (placeOf (quarter (d .size)) (d .tables) x) (length space)
+    (some? (sameEntry (entryOf (x .cred) (x .req))) (remembered d x)) (length (remembered d x)) (x .cred) (x .req)
+    (placeOf (quarter (d .size)) (d .tables) x) (length space)
 unfolding
     driveRows
     judgeRows
@@ -134,13 +136,13 @@ unfolding
 rules-rows d x space = refl
 
 -- a place that is looked for only where one is needed judges row 20 the same
-pub place-when : (mark : ℕ) (p : rules.Partition Object) (l : List Entry) (c : Credential) (r : Request)
+pub place-when : (mark : ℕ) (p : rules.Partition Object) (replayed : Bool) (held : ℕ) (c : Credential) (r : Request)
     (place : Option ℕ) (space : ℕ)
-    → judgeRows mark p l c r (cond (r .operation isnt 5) none place) space ≡ judgeRows mark p l c r place space
+    → judgeRows mark p replayed held c r (cond (r .operation isnt 5) none place) space ≡ judgeRows mark p replayed held c r place space
 unfolding judgeRows
-place-when mark p l c r place space = go (r .operation is 5) refl
+place-when mark p replayed held c r place space = go (r .operation is 5) refl
   where
     go : (b : Bool) → (r .operation is 5) ≡ b
-        → judgeRows mark p l c r (cond (r .operation isnt 5) none place) space ≡ judgeRows mark p l c r place space
+        → judgeRows mark p replayed held c r (cond (r .operation isnt 5) none place) space ≡ judgeRows mark p replayed held c r place space
     go true e = rw e refl
     go false e = rw e refl

@@ -1,18 +1,16 @@
-// Rows 10 to 23 of document 01, judged of one partition and one replay memory, which has no outlived entry. Every test
-// is made whatever the others say; the lowest row that applies is the answer.
+// Rows 10 to 23 of document 01, judged of one partition and of what is known of one replay memory, which has no outlived
+// entry: whether it holds the frame's nonce (`replayed`), and how many entries it has (`held`). Every test is made whatever the others say; the lowest row that applies is the answer.
 ghost use mathlib.Core.Path.{_≡_};
 ghost use mathlib.Core.Bool.{not, cond};
 ghost use Prim.Native.Nat.{_-_};
 ghost use Rattle.lemmas.specs.Rows.{firstRow};
 ghost use Rattle.lemmas.specs.Lists.{missing};
 ghost use Rattle.rules.specs.Rows.{untimely, bit, outOfRange};
-ghost use Rattle.memory.specs.Memory.{entriesOf};
 ghost use Rattle.partition.specs.Partition.{partitionOf};
 ghost use Rattle.placing.specs.Placing.{told};
 ghost use Rattle.wire.specs.Parse.{operationNumber, requestTold};
 ghost use Rattle.judge.specs.Judge.{entryOf, placeFor, presentIn, timeRow, objectRow, roomRow, judgeRows};
 use lemmas::pick;
-use memory::Memory;
 use partition::Partition;
 use partition::Target;
 use placing::Place;
@@ -87,12 +85,19 @@ fn has_right(o: Operation, rights: u16) -> bool
 }
 
 // Rows 10 to 13: expiry, time, nonce, right.
-fn time_row(mark: u64, m: Memory, c: Credential, q: ParsedRequest, r: Request, rest: u32) -> u32
-    ensures { λ x. ⌜ x ≡ timeRow mark (entriesOf m) c (operationNumber (q .operation)) r rest ⌝ }
+fn time_row(
+    mark: u64,
+    replayed: bool,
+    c: Credential,
+    q: ParsedRequest,
+    r: Request,
+    rest: u32,
+) -> u32
+    ensures { λ x. ⌜ x ≡ timeRow mark replayed c (operationNumber (q .operation)) r rest ⌝ }
 {
     let o = q.operation;
     let x = pick(!has_right(o, c.rights), 13, rest);
-    let x = pick(memory::holds(m, entry_of(c, r)), 12, x);
+    let x = pick(replayed, 12, x);
     let x = pick(is_untimely(mark, r.time), 11, x);
     pick(c.expiry < mark, 10, x)
 }
@@ -128,15 +133,15 @@ fn object_row(c: Credential, r: Request, t: Target, version: u32, rest: u32) -> 
 }
 
 // Rows 18 to 23: number, objects, place, versions, memory, reply space.
-fn room_row(p: Partition, m: Memory, r: Request, place: Place, space: usize) -> u32
-    ensures { λ x. ⌜ x ≡ roomRow (partitionOf p) (entriesOf m) r (told place) space ⌝ }
+fn room_row(p: Partition, held: usize, r: Request, place: Place, space: usize) -> u32
+    ensures { λ x. ⌜ x ≡ roomRow (partitionOf p) held r (told place) space ⌝ }
 {
     let os = p.objects;
     let taken = partition::named(p, r.A);
     let gives = (r.operation == 4) | (r.operation == 5);
     let creates = r.operation == 5;
     let x = pick((space as u64) < reply::reply_length(r), 23, 0);
-    let x = pick(memory::entry_count(m) == 64, 22, x);
+    let x = pick(held == 64, 22, x);
     let x = pick(gives & (p.last == 4294967295), 21, x);
     let x = pick(creates & is_nowhere(place), 20, x);
     let x = pick(creates & (state::object_count(os) == 16), 19, x);
@@ -147,18 +152,19 @@ fn room_row(p: Partition, m: Memory, r: Request, place: Place, space: usize) -> 
 pub fn judge(
     mark: u64,
     p: Partition,
-    m: Memory,
+    replayed: bool,
+    held: usize,
     c: Credential,
     q: ParsedRequest,
     place: Place,
     space: usize,
 ) -> u32
-    ensures { λ x. ⌜ x ≡ firstRow (judgeRows mark (partitionOf p) (entriesOf m) c (requestTold q) (told place) space) ⌝ }
+    ensures { λ x. ⌜ x ≡ firstRow (judgeRows mark (partitionOf p) replayed held c (requestTold q) (told place) space) ⌝ }
 {
     let r = wire::numbers(q);
     let t = partition::named(p, c.object);
     let v = present(p, c.object, t);
-    let x = room_row(p, m, r, place, space);
+    let x = room_row(p, held, r, place, space);
     let x = object_row(c, r, t, v, x);
-    time_row(mark, m, c, q, r, x)
+    time_row(mark, replayed, c, q, r, x)
 }

@@ -1,22 +1,29 @@
 -- Document 01, "Drive state", nonce memories: a memory of the record as the rules see it. mark: the drive's time.
 use mathlib.Core.Path.{_≡_}
 use mathlib.Core.Bool.{true, false, not}
-use mathlib.Core.List.{List}
-use Prim.Native.Nat.{ℕ, _+_, _-_, _<_, _≤_}
+use mathlib.Core.List.{List, [], _∷_}
+use Prim.Native.Nat.{ℕ, _+_, _-_, _<_, _≤_, min}
 use native.Mathlib.Omega.{arith}
 use native.Mathlib.Decide.{decLt}
-use lib.ListN.{take}
 use lib.Dec.{ltb}
 use borrow.Author.Tests.{le-leb, lt-leb, lt-ltb, le-ltb}
 use Rattle.lemmas.specs.Lists.{some?, keep}
 use Rattle.lemmas.specs.Loops.{keep-all}
 use Rattle.rules.specs.declared.Entry.{Entry}
 use Rattle.rules.specs.Drive.{lives}
-use Rattle.memory.specs.declared.Memory.{Memory}
 
--- "a memory holds, in order of grant, exactly its entries"
-abbrev pub entriesOf : Memory → List Entry
-entriesOf m = take (m .count) (m .entries)
+-- "a memory holds, in order of grant, exactly its entries": slots, holders, times and counts, one number of each entry
+-- in each, as many entries as the shortest of the four has numbers
+unfoldable pub entries : List ℕ → List ℕ → List ℕ → List ℕ → List Entry
+entries [] h t n = []
+entries (a ∷ s) [] t n = []
+entries (a ∷ s) (b ∷ h) [] n = []
+entries (a ∷ s) (b ∷ h) (c ∷ t) [] = []
+entries (a ∷ s) (b ∷ h) (c ∷ t) (d ∷ n) = record { slot = a; holder = b; time = c; count = d } ∷ entries s h t n
+
+-- the smallest of four: how many entries four lists of these lengths make
+abbrev pub fewest : ℕ → ℕ → ℕ → ℕ → ℕ
+fewest a b c d = min (min a b) (min c d)
 
 -- what stands past the end of a list of entries
 abbrev pub noEntry : Entry

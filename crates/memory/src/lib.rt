@@ -1,29 +1,22 @@
-// A replay memory (document 01's nonce memory): an array of entries with a count. Everything is total: a count over the
-// array's length is taken for that length.
+// A replay memory (document 01's nonce memory): its entries stand in four lent slices, slots, holders, times and
+// counts, one number of each entry in each. Everything is total: where the slices differ in length, the entries are as
+// many as the shortest has.
 ghost use mathlib.Core.Path.{_≡_};
-ghost use mathlib.Core.Bool.{not, cond};
-ghost use mathlib.Core.List.{[], _∷_, _++_};
-ghost use Prim.Native.Nat.{_-_, _≤_};
-ghost use lib.ListN.{length};
-ghost use Rattle.lemmas.specs.Tests.{_under_};
+ghost use mathlib.Core.List.{_++_};
+ghost use Prim.Native.Nat.{ℕ, _-_, _≤_};
+ghost use lib.Dec.{ltb};
+ghost use lib.ListN.{length, take, drop};
 ghost use Rattle.lemmas.specs.Lists.{some?, keep};
-ghost use Rattle.rules.specs.declared.Entry.{Entry};
-ghost use Rattle.rules.specs.Drive.{lives, sameEntry, mostEntries};
-ghost use Rattle.memory.specs.Memory.{entriesOf};
+ghost use Rattle.rules.specs.Drive.{lives, sameEntry};
+ghost use Rattle.memory.specs.Memory.{entries, fewest};
 use lemmas::within;
 use rules::Entry;
 
-// A replay memory: its entries in order of grant.
-pub struct Memory {
-    pub entries: [Entry; 64],
-    pub count: usize,
-}
-
-// How many entries a memory has.
-pub fn entry_count(m: Memory) -> usize
-    ensures { λ r. ⌜ (r ≡ length (entriesOf m)) × (r ≤ mostEntries) ⌝ }
+// How many entries there are: the shortest of four lengths.
+fn shortest(a: usize, b: usize, c: usize, d: usize) -> usize
+    ensures { λ r. ⌜ r ≡ fewest a b c d ⌝ }
 {
-    within(m.count, 64)
+    within(within(a, b), within(c, d))
 }
 
 // The lowest time that is not outlived at a mark; T + 5,000 could pass 64 bits.
@@ -33,41 +26,87 @@ fn floor_of(mark: u64) -> u64
     if mark < 5000 { 0 } else { mark - 5000 }
 }
 
-// Whether a memory has an outlived entry.
-pub fn stale(m: Memory, mark: u64) -> bool
-    ensures { λ r. ⌜ r ≡ some? (λ (e : Entry). not (lives mark e)) (entriesOf m) ⌝ }
+// Whether one of the first n times is outlived.
+fn stale(times: &[u64], n: usize, mark: u64) -> bool
+    requires { ⌜ n ≤ length (now times) ⌝ }
+    ensures { λ r. ⌜ r ≡ some? (λ (t : ℕ). ltb t (mark - 5000)) (take n (now (times .entry))) ⌝ }
 {
     let floor = floor_of(mark);
-    let n = within(m.count, 64);
     let mut r = false;
     let mut i = 0;
     while i < n {
-        let e = m.entries[i];
-        r = r | (e.time < floor);
+        r = r | (times[i] < floor);
         i += 1;
     }
     r
 }
 
-// The memory without its outlived entries.
-pub fn purged(m: Memory, mark: u64) -> Memory
-    ensures { λ r. ⌜ (entriesOf r ≡ keep (lives mark) (entriesOf m)) × (r .count ≤ mostEntries) ⌝ }
+// Moves each of the n entries that live to the front, in their order, and counts them. What stands from there on stays.
+fn compact(
+    slots: &mut [u8],
+    holders: &mut [u32],
+    times: &mut [u64],
+    counts: &mut [u32],
+    n: usize,
+    mark: u64,
+) -> usize
+    requires { ⌜ n ≡ fewest (length (now slots)) (length (now holders)) (length (now times)) (length (now counts)) ⌝ }
+    ensures { λ r. ⌜ (r ≡ length (keep (lives mark)
+        (entries (now (slots .entry)) (now (holders .entry)) (now (times .entry)) (now (counts .entry)))))
+        × (entries (now (slots .exit)) (now (holders .exit)) (now (times .exit)) (now (counts .exit))
+        ≡ keep (lives mark)
+        (entries (now (slots .entry)) (now (holders .entry)) (now (times .entry)) (now (counts .entry)))
+        ++ drop r (entries (now (slots .entry)) (now (holders .entry)) (now (times .entry)) (now (counts .entry))))
+        × (length (now (slots .exit)) ≡ length (now (slots .entry)))
+        × (length (now (holders .exit)) ≡ length (now (holders .entry)))
+        × (length (now (times .exit)) ≡ length (now (times .entry)))
+        × (length (now (counts .exit)) ≡ length (now (counts .entry))) ⌝ }
 {
     let floor = floor_of(mark);
-    let n = within(m.count, 64);
-    let mut r = m;
     let mut k = 0;
     let mut i = 0;
     while i < n {
-        let e = m.entries[i];
+        let slot = slots[i];
+        let holder = holders[i];
+        let time = times[i];
+        let count = counts[i];
         i += 1;
-        if floor <= e.time {
-            r.entries[k] = e;
+        if floor <= time {
+            slots[k] = slot;
+            holders[k] = holder;
+            times[k] = time;
+            counts[k] = count;
             k += 1;
         }
     }
-    r.count = k;
-    r
+    k
+}
+
+// The memory without its outlived entries: those that live stand at the front, in their order, and are counted. Where
+// none is outlived nothing is written.
+pub fn purge(
+    slots: &mut [u8],
+    holders: &mut [u32],
+    times: &mut [u64],
+    counts: &mut [u32],
+    mark: u64,
+) -> usize
+    ensures { λ r. ⌜ (r ≡ length (keep (lives mark)
+        (entries (now (slots .entry)) (now (holders .entry)) (now (times .entry)) (now (counts .entry)))))
+        × (entries (now (slots .exit)) (now (holders .exit)) (now (times .exit)) (now (counts .exit))
+        ≡ keep (lives mark)
+        (entries (now (slots .entry)) (now (holders .entry)) (now (times .entry)) (now (counts .entry)))
+        ++ drop r (entries (now (slots .entry)) (now (holders .entry)) (now (times .entry)) (now (counts .entry))))
+        × (length (now (slots .exit)) ≡ length (now (slots .entry)))
+        × (length (now (holders .exit)) ≡ length (now (holders .entry)))
+        × (length (now (times .exit)) ≡ length (now (times .entry)))
+        × (length (now (counts .exit)) ≡ length (now (counts .entry))) ⌝ }
+{
+    let n = shortest(slots.len(), holders.len(), times.len(), counts.len());
+    if !stale(&*times, n, mark) {
+        return n;
+    }
+    compact(slots, holders, times, counts, n, mark)
 }
 
 // Whether two entries are the same nonce.
@@ -78,33 +117,22 @@ fn same_entry(a: Entry, b: Entry) -> bool
 }
 
 // Whether a memory holds the nonce of an entry.
-pub fn holds(m: Memory, e: Entry) -> bool
-    ensures { λ r. ⌜ r ≡ some? (sameEntry e) (entriesOf m) ⌝ }
+pub fn holds(slots: &[u8], holders: &[u32], times: &[u64], counts: &[u32], e: Entry) -> bool
+    ensures { λ r. ⌜ r ≡ some? (sameEntry e)
+        (entries (now (slots .entry)) (now (holders .entry)) (now (times .entry)) (now (counts .entry))) ⌝ }
 {
-    let n = within(m.count, 64);
+    let n = shortest(slots.len(), holders.len(), times.len(), counts.len());
     let mut r = false;
-    let mut i = 0;
-    while i < n {
-        let x = m.entries[i];
+    let mut at = 0;
+    while at < n {
+        let x = Entry {
+            slot: slots[at],
+            holder: holders[at],
+            time: times[at],
+            count: counts[at],
+        };
         r = r | same_entry(e, x);
-        i += 1;
+        at += 1;
     }
-    r
-}
-
-// The memory with one entry more, where it has room.
-pub fn enter(m: Memory, e: Entry) -> Memory
-    ensures { λ r. ⌜ (entriesOf r ≡
-        cond (length (entriesOf m) under mostEntries) (entriesOf m ++ (e ∷ [])) (entriesOf m))
-        × (r .count ≤ mostEntries) ⌝ }
-{
-    let at = m.count;
-    let mut r = m;
-    if at < 64 {
-        r.entries[at] = e;
-        r.count = at + 1;
-        return r;
-    }
-    r.count = 64;
     r
 }

@@ -37,8 +37,8 @@ fn seen(a: Answer, numbers: [u64; 76], kept: [u8; 32]) -> Turn {
     let d = a.drive;
     let keys = d.keys;
     let p = d.partitions[0];
-    let m = d.memories[0];
-    turn::noted(numbers, kept, d.size, d.highwater, m.count, keys, p)
+    let held = d.lengths[0];
+    turn::noted(numbers, kept, d.size, d.highwater, held, keys, p)
 }
 
 // The second object that `damage` says.
@@ -66,11 +66,9 @@ fn damaged(a: Answer, n: [u64; 76]) -> Answer {
     let mut d = a.drive;
     let p = d.partitions[0];
     let q = damaged_partition(p, n[words::B] as usize, object_of(n));
-    let mut m = d.memories[0];
-    m.count = n[words::A + 6] as usize;
     d.size = n[words::A] as usize;
     d.partitions[0] = q;
-    d.memories[0] = m;
+    d.lengths[0] = n[words::A + 6] as usize;
     Answer {
         row: 0,
         length: 0,

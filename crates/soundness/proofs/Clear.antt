@@ -12,11 +12,11 @@ use borrow.Author.Tests.{ltb-true, ltb-false, leb-true, lt-ltb, le-ltb, le-leb, 
 use Rattle.lemmas.specs.Tests.{_under_, _is_, _isnt_, and-l, and-r}
 use Rattle.lemmas.specs.Lists.{every, pairs}
 use Rattle.lemmas.specs.ListLaws.{nth-map}
-use Rattle.lemmas.specs.Loops.{every-take}
+use Rattle.lemmas.specs.Loops.{every-take, pairs-take}
 use Rattle.rules.specs.declared.Object.{Object}
 use Rattle.rules.specs.Drive.{soundObject, apart}
 use Rattle.rules.specs.Operations.{noObject}
-use Rattle.soundness.specs.Spans.{endOf, clash, clashAt, below}
+use Rattle.soundness.specs.Spans.{endOf, clash, clashAt, clearAt, below, each}
 
 not-or : (a b : Bool) → not (a || b) ≡ (not a && not b)
 not-or true b = refl
@@ -75,13 +75,31 @@ module _ (l : List Object) (n : ℕ) (h : n < length l) where
   ]
 
   -- what the loop over all sixteen places finds
-  pub clear-of-all : (numbers starts ends : List ℕ) (r : Bool) → length l ≡ 16
-      → numbers ≡ map Object.number l → starts ≡ map Object.start l → ends ≡ map endOf l
-      → r ≡ not (below (λ (i : ℕ). i under n && clashAt numbers starts ends n i) 16)
-      → r ≡ every (λ (a : Object). clear a (getD l n noObject)) (take n l)
+  clear-at : length l ≡ 16
+      → clearAt (map Object.number l) (map Object.start l) (map endOf l) n ≡ every (λ (a : Object). clear a (getD l n noObject)) (take n l)
   unfolding met
-  clear-of-all numbers starts ends r e f g k t =
-      t ∙ rw (f, g, k) (ap not (past 16 (omega arith)) ∙ up-to n (omega arith))
+  clear-at e = ap not (past 16 (omega arith)) ∙ up-to n (omega arith)
+
+-- ---- the first n objects, each against those before it
+module _ (l : List Object) (long : length l ≡ 16) where
+  test : ℕ → Bool
+  test = clearAt (map Object.number l) (map Object.start l) (map endOf l)
+
+  each-clear : (n : ℕ) → n ≤ 16 → each test n ≡ pairs clear (take n l)
+  unfolding each pairs test
+  each-clear zero g = refl
+  each-clear (suc n) g =
+      let h : n < length l = omega arith in
+      let more : pairs clear (take (suc n) l) ≡ pairs clear (take n l) && every (λ (a : Object). clear a (getD l n noObject)) (take n l) =
+      ap (λ (j : ℕ). pairs clear (take j l)) (sym (add-one n)) ∙ pairs-take clear l n noObject h in
+      rw (each-clear n (omega arith), clear-at l n h long) (sym more)
+
+  -- what the loop over the first n finds
+  pub clear-each : (numbers starts ends : List ℕ) (n : ℕ) → n ≤ 16
+      → numbers ≡ map Object.number l → starts ≡ map Object.start l → ends ≡ map endOf l
+      → each (clearAt numbers starts ends) n ≡ pairs clear (take n l)
+  unfolding test
+  clear-each numbers starts ends n h e f g = rw (e, f, g) (each-clear n h)
 
 -- ---- sound objects
 module _ (q last : ℕ) (small : q < 2 ^ 32) where

@@ -1,1 +1,3 @@
 mod Clear
+mod Places
+mod Sound

@@ -1,2 +1,2 @@
--- How the code tests that objects are apart.
+-- How the code tests that objects are sound, and apart.
 pub mod Spans

@@ -1,10 +1,11 @@
--- Objects compared by their numbers and by 32-bit ends of their extents. Of sound objects that is the rules' `apart`
--- (clear-pairs in proofs/Clear.antt).
+-- Objects judged and compared by their numbers and by 32-bit ends of their extents. Of sound objects that is the rules'
+-- `apart` (clear-pairs in proofs/Clear.antt).
 use mathlib.Core.Path.{_≡_, ap}
-use mathlib.Core.Bool.{Bool, false, _&&_, _||_}
-use mathlib.Core.List.{List}
+use mathlib.Core.Bool.{Bool, true, false, not, _&&_, _||_}
+use mathlib.Core.List.{List, [], _∷_}
 use Prim.Native.Nat.{ℕ, zero, suc, _+_, _%_, _^_}
 use native.Mathlib.Numerals.{add-one}
+use lib.Dec.{leb}
 use lib.ListN.{getD}
 use Rattle.lemmas.specs.Tests.{_is_, _under_}
 use Rattle.rules.specs.declared.Object.{Object}
@@ -12,6 +13,20 @@ use Rattle.rules.specs.declared.Object.{Object}
 -- an extent's end, by a sum that wraps
 abbrev pub endOf : Object → ℕ
 endOf o = (o .start + o .size) % 2 ^ 32
+
+-- a size of 32 bits, as every object of an array has
+abbrev pub narrow : Object → Bool
+narrow o = o .size under 2 ^ 32
+
+-- an object's soundness by the end of its extent; of a narrow one that is the rules' `soundObject` (sound-each in
+-- proofs/Sound.antt)
+abbrev pub soundSpan : ℕ → ℕ → ℕ → ℕ → ℕ → ℕ → Bool
+soundSpan q last number start end version = leb 1 number && start under end && leb end q && leb version last
+
+-- the same of place i of four lists: numbers, starts, ends, versions
+abbrev pub soundAt : ℕ → ℕ → List ℕ → List ℕ → List ℕ → List ℕ → ℕ → Bool
+soundAt q last numbers starts ends versions i =
+    soundSpan q last (getD numbers i 0) (getD starts i 0) (getD ends i 0) (getD versions i 0)
 
 -- two objects that share a number or, by those ends, a byte
 abbrev pub clash : Object → Object → Bool
@@ -30,3 +45,21 @@ below t (suc k) = below t k || t k
 pub below-more : (t : ℕ → Bool) (k : ℕ) → below t (k + 1) ≡ below t k || t k
 unfolding below
 below-more t k = ap (below t) (add-one k)
+
+-- whether place n clashes with none before it, of sixteen
+abbrev pub clearAt : List ℕ → List ℕ → List ℕ → ℕ → Bool
+clearAt numbers starts ends n = not (below (λ (i : ℕ). i under n && clashAt numbers starts ends n i) 16)
+
+-- whether every number under k passes a test
+unfoldable pub each : (ℕ → Bool) → ℕ → Bool
+each t zero = true
+each t (suc k) = each t k && t k
+
+pub each-more : (t : ℕ → Bool) (k : ℕ) → each t (k + 1) ≡ each t k && t k
+unfolding each
+each-more t k = ap (each t) (add-one k)
+
+-- the n numbers from a on
+abbrev pub from : ℕ → ℕ → List ℕ
+from a zero = []
+from a (suc n) = a ∷ from (a + 1) n

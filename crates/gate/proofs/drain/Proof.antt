@@ -101,7 +101,22 @@ loop-again : tie.Need-loop-again Inv-loop μ-loop
 loop-again c =
     let s = served (c .before) in
     let l = (head s) .loop in
-    (within s, omega (arith, l .inv .1, round s .counted), search needs, search needs, search needs)
+    let k = s .serve .kept in (
+      within s,
+      omega (arith, l .inv .1, round s .counted),
+      k .1 .0 ∙ l .inv .2,
+      k .1 .1 .1 .1 .0 ∙ l .inv .3,
+      k .1 .1 .1 .1 .1 .0 ∙ l .inv .4,
+    )
+
+same-length : tie.Need-same-length Inv-loop μ-loop
+same-length c = let s = served (c .before) in s .serve .kept .1 .0 ∙ (head s) .loop .inv .2
+
+same-length-2 : tie.Need-same-length-2 Inv-loop μ-loop
+same-length-2 c = let s = served (c .before) in s .serve .kept .1 .1 .1 .1 .0 ∙ (head s) .loop .inv .3
+
+same-length-3 : tie.Need-same-length-3 Inv-loop μ-loop
+same-length-3 c = let s = served (c .before) in s .serve .kept .1 .1 .1 .1 .1 .0 ∙ (head s) .loop .inv .4
 
 pub drain-spec : {M : Type 1} → statement M
 drain-spec =
@@ -109,4 +124,4 @@ drain-spec =
     (tie.spec
     Inv-loop μ-loop loop-holds (λ c. omega arith) (λ c. search needs) (λ c. search needs) serve-requires
     (λ c. omega (arith, within (c .before .before .before .before .before .before .before .before))) (λ c. put-within c) (λ c. sym (length-take-le _ _ (put-within (c .before))))
-    (λ c κs. tt) (λ c. search needs) (λ c. search needs) (λ c. search needs) returns loop-less loop-again)
+    (λ c κs. tt) same-length same-length-2 same-length-3 returns loop-less loop-again)

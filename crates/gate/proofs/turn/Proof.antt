@@ -136,6 +136,7 @@ turn-spec =
     (λ c κs. search needs) (λ c. medium-long (silent c)) (λ c. long (read (silent c))) (λ c. reply-long (silent c))
     (λ c. out-long (silent c)) returns-2 add-at (λ c. within (rounds c)) part-is-wrong-start part-is-wrong-end
     (λ c κs. search needs) (λ c κs. search needs) (λ c κs. search needs) (λ c. medium-long (broke c))
-    (λ c. long (read (broke c))) (λ c. reply-long (broke c)) (λ c. search needs) returns-3 add-t43
+    (λ c. long (read (broke c))) (λ c. reply-long (broke c))
+    (λ c. c .before .before .before .finish2 .kept .0 ∙ out-long (broke c)) returns-3 add-t43
     (λ c. medium-long (rounds (tested c))) (λ c. long (read (rounds (tested c)))) (λ c. reply-long (rounds (tested c)))
     (λ c. out-long (rounds (tested c))) returns-4)

@@ -14,10 +14,9 @@ returns c =
       c .before .before .before .before .before .is-nowhere .ensures,
       c .before .before .before .before .before .before .pick3 .ensures,
       c .before .before .before .before .before .before .before .before .pick2 .ensures,
-      c .before .before .before .before .before .before .before .before .before .entry-count .ensures .0,
-      c .before .before .before .before .before .before .before .before .before .before .pick .ensures,
-      c .before .before .before .before .before .before .before .before .before .before .before .reply-length .ensures,
-      c .before .before .before .before .before .before .before .before .before .before .before .before .before .before .before .named .ensures,
+      c .before .before .before .before .before .before .before .before .before .pick .ensures,
+      c .before .before .before .before .before .before .before .before .before .before .reply-length .ensures,
+      c .before .before .before .before .before .before .before .before .before .before .before .before .before .before .named .ensures,
     )
 
 pub room-row-spec : {M : Type 1} → statement M
@@ -26,4 +25,4 @@ room-row-spec =
     (tie.spec
     (λ c κs. search needs) (λ c κs. search needs) (λ c κs. search needs) (λ c κs. search needs)
     (λ c κs. search needs) (λ c κs. search needs) (λ c κs. search needs) (λ c κs. search needs)
-    (λ c κs. search needs) (λ c κs. search needs) (λ c κs. search needs) returns)
+    (λ c κs. search needs) (λ c κs. search needs) returns)

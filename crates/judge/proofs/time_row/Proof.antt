@@ -9,10 +9,8 @@ returns c =
       c .before .before .pick3 .ensures,
       c .before .before .before .is-untimely .ensures,
       c .before .before .before .before .pick2 .ensures,
-      c .before .before .before .before .before .holds .ensures,
-      c .before .before .before .before .before .before .entry-of .ensures,
-      c .before .before .before .before .before .before .before .pick .ensures,
-      c .before .before .before .before .before .before .before .before .has-right .ensures,
+      c .before .before .before .before .before .pick .ensures,
+      c .before .before .before .before .before .before .has-right .ensures,
     )
 
 pub time-row-spec : {M : Type 1} → statement M
@@ -20,4 +18,4 @@ time-row-spec =
     tie.close
     (tie.spec
     (λ c κs. search needs) (λ c κs. search needs) (λ c κs. search needs) (λ c κs. search needs)
-    (λ c κs. search needs) (λ c κs. search needs) (λ c κs. search needs) (λ c κs. search needs) returns)
+    (λ c κs. search needs) (λ c κs. search needs) returns)

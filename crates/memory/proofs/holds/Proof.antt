@@ -1,21 +1,24 @@
--- r tells of the first i entries (some-take).
+-- r tells of the first `at` entries (some-take).
 use mathlib.Core.Path.{_≡_}
-use Prim.Native.Nat.{_-_, _≤_}
+use Prim.Native.Nat.{_-_, _<_, _≤_}
 use native.Mathlib.Omega.{arith}
 use lib.ListN.{length, take}
+use lib.Seq.{take-all}
 use borrow.Author.Needs.{needs}
 use Rattle.lemmas.specs.Lists.{some?}
-use Rattle.lemmas.specs.Loops.{unmapped, take-within, some-take}
+use Rattle.lemmas.specs.Loops.{some-take}
 use Rattle.rules.specs.Drive.{sameEntry}
-use Rattle.memory.specs.Memory.{noEntry}
+use Rattle.memory.specs.Memory.{entries, noEntry}
+use Rattle.memory.specs.Entries.{entries-count, entries-at}
 use Rattle.memory.proofs.holds.Statement.{statement}
 use Rattle.memory.proofs.holds.Tie as tie
 
 abbrev Inv-loop : tie.InvT-loop
-Inv-loop e m n r₀ i₀ r i = (i ≤ n) × (r ≡ some? (sameEntry e) (take i (m .entries)))
+Inv-loop slots holders times counts e n r₀ at₀ r at =
+    (at ≤ n) × (r ≡ some? (sameEntry e) (take at (entries slots holders times counts)))
 
 abbrev μ-loop : tie.MeasureT-loop
-μ-loop e m n r₀ i₀ r i = n - i
+μ-loop slots holders times counts e n r₀ at₀ r at = n - at
 
 loop-holds : tie.Need-loop-holds Inv-loop μ-loop
 unfolding some?
@@ -23,21 +26,29 @@ loop-holds c = search needs
 
 loop-again : tie.Need-loop-again Inv-loop μ-loop
 loop-again c =
-    let l = c .before .before .before .loop in
-    let a = c .before .before .before .before .before .args in
-    let long : length (a .t1 .entries) ≡ 64 = search (needs, unmapped) in
-    (search needs, rw (some-take (sameEntry (a .e)) (a .t1 .entries) (l .i) noEntry (omega arith), l .inv .1, c .same-entry .ensures))
+    let l = c .before .before .before .before .before .before .loop in
+    let a = c .before .before .before .before .before .before .before .before .before .before .before .before .args in
+    let s = a .slots .now in
+    let h = a .holders .now in
+    let t = a .times .now in
+    let n = a .counts .now in
+    let m : l .at < length (entries s h t n) = omega (arith, entries-count s h t n) in (
+      search needs,
+      rw (some-take (sameEntry (a .e)) (entries s h t n) (l .at) noEntry m, entries-at s h t n (l .at) m, l .inv .1, c .same-entry .ensures),
+    )
 
 returns : tie.Need-returns Inv-loop μ-loop
 returns c =
     let l = c .before .loop in
-    let a = c .before .before .before .args in
-    let long : length (a .t1 .entries) ≡ 64 = search (needs, unmapped) in
-    rw (take-within (a .t1 .count) 64 (a .t1 .entries) long (l .i) (omega arith)) at (l .inv .1)
+    let a = c .before .before .before .before .before .before .before .args in
+    let E = entries (a .slots .now) (a .holders .now) (a .times .now) (a .counts .now) in
+    let m : length E ≤ l .at = omega (arith, entries-count (a .slots .now) (a .holders .now) (a .times .now) (a .counts .now)) in
+    rw (take-all (l .at) E m) at (l .inv .1)
 
 pub holds-spec : {M : Type 1} → statement M
 holds-spec =
     tie.close
     (tie.spec
-    Inv-loop μ-loop (λ c κs. search needs) loop-holds (λ c. search needs) (λ c. search needs) (λ c κs. search needs) (λ c. search needs)
-    (λ c. search needs) loop-again returns)
+    Inv-loop μ-loop (λ c κs. search needs) loop-holds (λ c. search needs) (λ c. search needs) (λ c. search needs)
+    (λ c. search needs) (λ c. search needs) (λ c. search needs) (λ c. search needs) (λ c κs. search needs)
+    (λ c. search needs) (λ c. search needs) loop-again returns)

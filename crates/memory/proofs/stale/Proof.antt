@@ -1,23 +1,20 @@
--- r tells of the first i entries (some-take); the test is the rule's by outlived.
+-- r tells of the first i times (some-take).
 use mathlib.Core.Path.{_≡_}
-use mathlib.Core.Bool.{not}
-use Prim.Native.Nat.{_-_, _≤_}
+use Prim.Native.Nat.{ℕ, _-_, _≤_}
 use native.Mathlib.Omega.{arith}
-use lib.ListN.{length, getD, take}
+use lib.Dec.{ltb}
+use lib.ListN.{take}
 use borrow.Author.Needs.{needs}
 use Rattle.lemmas.specs.Lists.{some?}
-use Rattle.lemmas.specs.Loops.{unmapped, take-within, some-take}
-use Rattle.rules.specs.declared.Entry.{Entry}
-use Rattle.rules.specs.Drive.{lives}
-use Rattle.memory.specs.Memory.{noEntry, outlived}
+use Rattle.lemmas.specs.Loops.{some-take}
 use Rattle.memory.proofs.stale.Statement.{statement}
 use Rattle.memory.proofs.stale.Tie as tie
 
 abbrev Inv-loop : tie.InvT-loop
-Inv-loop mark m floor n r₀ i₀ r i = (i ≤ n) × (r ≡ some? (λ (e : Entry). not (lives mark e)) (take i (m .entries)))
+Inv-loop times n mark floor r₀ i₀ r i = (i ≤ n) × (r ≡ some? (λ (t : ℕ). ltb t (mark - 5000)) (take i times))
 
 abbrev μ-loop : tie.MeasureT-loop
-μ-loop mark m floor n r₀ i₀ r i = n - i
+μ-loop times n mark floor r₀ i₀ r i = n - i
 
 loop-holds : tie.Need-loop-holds Inv-loop μ-loop
 unfolding some?
@@ -25,23 +22,20 @@ loop-holds c = search needs
 
 loop-again : tie.Need-loop-again Inv-loop μ-loop
 loop-again c =
-    let l = c .before .before .before .loop in
-    let a = c .before .before .before .before .before .before .args in
-    let long : length (a .t1 .entries) ≡ 64 = search (needs, unmapped) in (
-      search needs,
-      rw (some-take (λ (e : Entry). not (lives (a .mark) e)) (a .t1 .entries) (l .i) noEntry (omega arith), l .inv .1, outlived (a .mark) (getD (a .t1 .entries) (l .i) noEntry), c .before .before .before .before .before .floor-of .ensures),
-    )
+    let l = c .before .before .loop in
+    let a = c .before .before .before .before .before .args in
+    (search needs, rw (some-take (λ (t : ℕ). ltb t (a .mark - 5000)) (a .times .now) (l .i) 0 (omega arith), l .inv .1, c .before .before .before .floor-of .ensures))
 
 returns : tie.Need-returns Inv-loop μ-loop
 returns c =
     let l = c .before .loop in
     let a = c .before .before .before .before .args in
-    let long : length (a .t1 .entries) ≡ 64 = search (needs, unmapped) in
-    rw (take-within (a .t1 .count) 64 (a .t1 .entries) long (l .i) (omega arith)) at (l .inv .1)
+    let e : l .i ≡ a .n = omega arith in
+    rw e at (l .inv .1)
 
 pub stale-spec : {M : Type 1} → statement M
 stale-spec =
     tie.close
     (tie.spec
-    Inv-loop μ-loop (λ c κs. search needs) (λ c κs. search needs) loop-holds (λ c. search needs) (λ c. search needs) (λ c. search needs)
-    (λ c. search needs) loop-again returns)
+    Inv-loop μ-loop (λ c κs. search needs) loop-holds (λ c. search needs) (λ c. search needs) (λ c. search needs) (λ c. search needs) loop-again
+    returns)

@@ -1,16 +1,11 @@
--- The test is the rule's, term by term.
+-- The test is the definition's, term by term.
 use mathlib.Core.Path.{refl}
 use borrow.Author.Needs.{needs}
-use Rattle.rules.specs.Drive.{soundObject}
 use Rattle.soundness.proofs.is_sound.Statement.{statement}
 use Rattle.soundness.proofs.is_sound.Tie as tie
 
 returns : tie.Need-returns
-unfolding soundObject
 returns c = refl
 
 pub is-sound-spec : {M : Type 1} → statement M
-is-sound-spec =
-    tie.close
-    (tie.spec
-    (λ c. search needs) (λ c. search needs) (λ c. search needs) returns)
+is-sound-spec = tie.close (tie.spec returns)

@@ -1,53 +1,36 @@
--- free tells of the first i objects (pairs-take), by clashes of their spans; of sound objects that is the rule (clear-pairs).
-use mathlib.Core.Path.{_≡_, refl, ap, _∙_}
-use mathlib.Core.Bool.{_&&_}
-use mathlib.Core.List.{map}
-use Prim.Native.Nat.{ℕ, _-_, _≤_, _<_}
+-- The two tests are of the objects' spans; they tell of the objects (sound-each, clear-each), and of sound objects the rule
+-- (clear-pairs).
+use mathlib.Core.Path.{_≡_}
+use Prim.Native.Nat.{_^_, _≤_, _<_}
 use native.Mathlib.Omega.{arith}
 use lib.ListN.{length, take}
 use borrow.Author.Needs.{needs}
-use Rattle.lemmas.specs.Lists.{every, pairs}
-use Rattle.lemmas.specs.Loops.{unmapped, take-within, pairs-take}
-use Rattle.rules.specs.declared.Object.{Object}
-use Rattle.rules.specs.Drive.{soundObject, apart}
-use Rattle.rules.specs.Operations.{noObject}
-use Rattle.soundness.specs.Spans.{endOf}
-use Rattle.soundness.proofs.Clear.{clear, clear-of-all, clear-pairs}
+use Rattle.lemmas.specs.Loops.{unmapped, take-within}
+use Rattle.soundness.proofs.Sound.{sound-each}
+use Rattle.soundness.proofs.Clear.{clear-each, clear-pairs}
 use Rattle.soundness.proofs.sound_objects.Statement.{statement}
 use Rattle.soundness.proofs.sound_objects.Tie as tie
 
-abbrev Inv-loop : tie.InvT-loop
-Inv-loop os quarter last n numbers starts ends free₀ i₀ free i = (i ≤ n) × (free ≡ pairs clear (take i (os .items)))
+long-of : (t : tie.Start) → length (t .args .os .items) ≡ 16
+long-of t = search (needs, unmapped)
 
-abbrev μ-loop : tie.MeasureT-loop
-μ-loop os quarter last n numbers starts ends free₀ i₀ free i = n - i
+small-of : (t : tie.Start) → t .args .quarter < 2 ^ 32
+small-of t = search needs
 
-loop-holds : tie.Need-loop-holds Inv-loop μ-loop
-unfolding pairs
-loop-holds c = (search needs, refl)
-
-loop-again : tie.Need-loop-again Inv-loop μ-loop
-loop-again c =
-    let l = c .before .before .before .before .before .loop in
-    let s = c .before .before .before .before .before .before .before .before .before .spans-of in
-    let os = c .before .before .before .before .before .before .before .before .before .before .before .args .os .items in
-    let long : length os ≡ 16 = search (needs, unmapped) in
-    let h : l .i < length os = omega arith in
-    let one = clear-of-all os (l .i) h (s .result .numbers) (s .result .starts) (s .result .ends) (c .is-clear .result) long (s .ensures .0) (s .ensures .1) (s .ensures .2) (c .is-clear .ensures) in
-    (search needs, rw (pairs-take clear os (l .i) noObject h, l .inv .1, one))
-
-returns : tie.Need-returns Inv-loop μ-loop
+returns : tie.Need-returns
 returns c =
-    let l = c .before .before .loop in
-    let a = c .before .before .before .before .before .before .before .before .args in
-    let long : length (a .os .items) ≡ 16 = search (needs, unmapped) in
-    let e = take-within (a .os .count) 16 (a .os .items) long (l .i) (omega arith) in
-    let n : l .i ≡ c .before .before .before .before .before .before .before .within .result = omega arith in
-    rw (c .all-sound .ensures, ← n, l .inv .1, e) (clear-pairs (a .quarter) (a .last) (omega arith) (take (a .os .count) (a .os .items)))
+    let free = c .before .before .before .before .before .all-clear in
+    let s = c .before .before .before .before .before .before .before .before .before .before .before .before .before .spans-of in
+    let n = c .before .before .before .before .before .before .before .before .before .before .before .before .before .before .within in
+    let start = c .before .before .before .before .before .before .before .before .before .before .before .before .before .before .before in
+    let a = start .args in
+    let os = a .os .items in
+    let long : length os ≡ 16 = long-of start in
+    let small = small-of start in
+    let most : n .result ≤ 16 = omega (arith, n .ensures) in
+    let sound = sound-each (a .quarter) (a .last) small os (s .ensures .4) (s .result .numbers) (s .result .starts) (s .result .ends) (s .result .versions) (n .result) (omega (arith, long, most)) (s .ensures .0) (s .ensures .1) (s .ensures .2) (s .ensures .3) in
+    let clear = clear-each os long (s .result .numbers) (s .result .starts) (s .result .ends) (n .result) most (s .ensures .0) (s .ensures .1) (s .ensures .2) in
+    rw (c .all-sound .ensures, free .ensures, sound, clear, take-within (a .os .count) 16 os long (n .result) (n .ensures)) (clear-pairs (a .quarter) (a .last) small (take (a .os .count) os))
 
 pub sound-objects-spec : {M : Type 1} → statement M
-sound-objects-spec =
-    tie.close
-    (tie.spec
-    Inv-loop μ-loop (λ c κs. search needs) (λ c κs. search needs) loop-holds (λ c κs. search needs) (λ c. search needs) (λ c. search needs) loop-again
-    (λ c κs. search needs) returns)
+sound-objects-spec = tie.close (tie.spec (λ c κs. search needs) (λ c κs. search needs) (λ c κs. search needs) (λ c κs. search needs) returns)

@@ -1,33 +1,42 @@
--- All five (every-five), in the view (every-mapped).
-use mathlib.Core.Path.{_≡_, refl, _∙_}
-use mathlib.Core.List.{List}
-use lib.ListN.{length}
-use lib.Dec.{leb}
-use Rattle.lemmas.specs.Loops.{unmapped}
-use Rattle.rules.specs.declared.Entry.{Entry}
-use Rattle.rules.specs.Drive.{mostEntries}
-use Rattle.memory.specs.declared.Memory.{Memory}
-use Rattle.drive.specs.View.{entered, short}
-use Rattle.drive.proofs.Turned.{noMemory, every-five, every-mapped}
+-- r tells of the first i lengths (every-take).
+use mathlib.Core.Path.{_≡_, refl}
+use Prim.Native.Nat.{_-_, _≤_, _<_}
+use native.Mathlib.Omega.{arith}
+use lib.ListN.{length, take}
+use lib.Seq.{take-all}
+use Rattle.lemmas.specs.Lists.{every}
+use Rattle.lemmas.specs.Loops.{every-take}
+use Rattle.drive.specs.View.{short}
 use borrow.Author.Needs.{needs}
 use Rattle.drive.proofs.fresh.short_memories.Statement.{statement}
 use Rattle.drive.proofs.fresh.short_memories.Tie as tie
 
-returns : tie.Need-returns
+abbrev Inv-loop : tie.InvT-loop
+Inv-loop ls r₀ i₀ r i = (i ≤ 5) × (r ≡ every short (take i ls))
+
+abbrev μ-loop : tie.MeasureT-loop
+μ-loop ls r₀ i₀ r i = 5 - i
+
+loop-holds : tie.Need-loop-holds Inv-loop μ-loop
+unfolding every
+loop-holds c = (search needs, refl)
+
+loop-again : tie.Need-loop-again Inv-loop μ-loop
+loop-again c =
+    let l = c .before .loop in
+    let a = c .before .before .args in
+    let long : length (a .t1) ≡ 5 = search needs in
+    (search needs, rw (every-take short (a .t1) (l .i) 0 (omega arith), l .inv .1))
+
+returns : tie.Need-returns Inv-loop μ-loop
 returns c =
-    let a = c .before .before .before .before .before .before .before .before .before .before .args in
-    let long : length (a .t1) ≡ 5 = search (needs, unmapped) in (
-      rw (c .before .before .before .before .is-short .ensures .0, c .before .before .before .is-short2 .ensures .0, c .before .before .is-short3 .ensures .0, c .before .is-short4 .ensures .0, c .is-short5 .ensures .0)
-          (every-five (λ (m : Memory). leb (length (entered m)) mostEntries) noMemory (a .t1) long)
-          ∙ every-mapped (λ (l : List Entry). leb (length l) mostEntries) entered (a .t1),
-      rw (c .before .before .before .before .is-short .ensures .1, c .before .before .before .is-short2 .ensures .1, c .before .before .is-short3 .ensures .1, c .before .is-short4 .ensures .1, c .is-short5 .ensures .1)
-          (every-five short noMemory (a .t1) long),
-    )
+    let l = c .before .loop in
+    let a = c .before .before .args in
+    let long : length (a .t1) ≡ 5 = search needs in
+    rw (take-all (l .i) (a .t1) (omega arith)) at (l .inv .1)
 
 pub short-memories-spec : {M : Type 1} → statement M
 short-memories-spec =
     tie.close
     (tie.spec
-    (λ c. search needs) (λ c. search needs) (λ c. search needs) (λ c. search needs) (λ c. search needs)
-    (λ c κs. search needs) (λ c κs. search needs) (λ c κs. search needs) (λ c κs. search needs)
-    (λ c κs. search needs) returns)
+    Inv-loop μ-loop loop-holds (λ c. search needs) (λ c. search needs) (λ c. search needs) (λ c. search needs) loop-again returns)

@@ -1,0 +1,137 @@
+-- Laws of `entries`: what a length, a place, a store and a part of the four lists are of the entries.
+use mathlib.Core.Path.{_≡_, refl, ap, _∙_}
+use mathlib.Core.Bool.{false, not}
+use mathlib.Core.List.{List, [], _∷_, _++_, append-nil}
+use Prim.Native.Nat.{ℕ, zero, suc, _-_, _<_}
+use native.Mathlib.Nat.{not-suc-le-zero, le-of-suc-le-suc}
+use native.Mathlib.Omega.{arith}
+use lib.Dec.{ltb}
+use lib.ListN.{length, getD, take, drop, set, drop-of-length-le}
+use Rattle.lemmas.specs.Lists.{some?, keep}
+use Rattle.rules.specs.declared.Entry.{Entry}
+use Rattle.rules.specs.Drive.{lives}
+use Rattle.memory.specs.Memory.{entries, fewest, noEntry, outlived, fresh}
+
+-- ---- lists of any lengths
+pub entries-count : (s h t n : List ℕ)
+    → length (entries s h t n) ≡ fewest (length s) (length h) (length t) (length n)
+unfolding entries
+entries-count [] h t n = omega arith
+entries-count (a ∷ s) [] t n = omega arith
+entries-count (a ∷ s) (b ∷ h) [] n = omega arith
+entries-count (a ∷ s) (b ∷ h) (c ∷ t) [] = omega arith
+entries-count (a ∷ s) (b ∷ h) (c ∷ t) (d ∷ n) = omega (arith, entries-count s h t n)
+
+pub entries-at : (s h t n : List ℕ) (i : ℕ) → i < length (entries s h t n)
+    → getD (entries s h t n) i noEntry
+    ≡ record { slot = getD s i 0; holder = getD h i 0; time = getD t i 0; count = getD n i 0 }
+unfolding entries
+entries-at [] h t n i q = absurd (not-suc-le-zero q)
+entries-at (a ∷ s) [] t n i q = absurd (not-suc-le-zero q)
+entries-at (a ∷ s) (b ∷ h) [] n i q = absurd (not-suc-le-zero q)
+entries-at (a ∷ s) (b ∷ h) (c ∷ t) [] i q = absurd (not-suc-le-zero q)
+entries-at (a ∷ s) (b ∷ h) (c ∷ t) (d ∷ n) zero q = refl
+entries-at (a ∷ s) (b ∷ h) (c ∷ t) (d ∷ n) (suc i) q = entries-at s h t n i (le-of-suc-le-suc q)
+
+pub entries-set : (s h t n : List ℕ) (i a b c d : ℕ)
+    → entries (set s i a) (set h i b) (set t i c) (set n i d)
+    ≡ set (entries s h t n) i (record { slot = a; holder = b; time = c; count = d })
+unfolding entries
+entries-set [] h t n i a b c d = refl
+entries-set (w ∷ s) [] t n zero a b c d = refl
+entries-set (w ∷ s) [] t n (suc i) a b c d = refl
+entries-set (w ∷ s) (x ∷ h) [] n zero a b c d = refl
+entries-set (w ∷ s) (x ∷ h) [] n (suc i) a b c d = refl
+entries-set (w ∷ s) (x ∷ h) (y ∷ t) [] zero a b c d = refl
+entries-set (w ∷ s) (x ∷ h) (y ∷ t) [] (suc i) a b c d = refl
+entries-set (w ∷ s) (x ∷ h) (y ∷ t) (z ∷ n) zero a b c d = refl
+entries-set (w ∷ s) (x ∷ h) (y ∷ t) (z ∷ n) (suc i) a b c d =
+    ap (λ (l : List Entry). record { slot = w; holder = x; time = y; count = z } ∷ l) (entries-set s h t n i a b c d)
+
+pub entries-take : (k : ℕ) (s h t n : List ℕ)
+    → entries (take k s) (take k h) (take k t) (take k n) ≡ take k (entries s h t n)
+unfolding entries
+entries-take zero s h t n = refl
+entries-take (suc k) [] h t n = refl
+entries-take (suc k) (a ∷ s) [] t n = refl
+entries-take (suc k) (a ∷ s) (b ∷ h) [] n = refl
+entries-take (suc k) (a ∷ s) (b ∷ h) (c ∷ t) [] = refl
+entries-take (suc k) (a ∷ s) (b ∷ h) (c ∷ t) (d ∷ n) =
+    ap (λ (l : List Entry). record { slot = a; holder = b; time = c; count = d } ∷ l) (entries-take k s h t n)
+
+-- no entry where one of the lists is empty
+no-holders : (s t n : List ℕ) → entries s [] t n ≡ []
+unfolding entries
+no-holders [] t n = refl
+no-holders (a ∷ s) t n = refl
+
+no-times : (s h n : List ℕ) → entries s h [] n ≡ []
+unfolding entries
+no-times [] h n = refl
+no-times (a ∷ s) [] n = refl
+no-times (a ∷ s) (b ∷ h) n = refl
+
+no-counts : (s h t : List ℕ) → entries s h t [] ≡ []
+unfolding entries
+no-counts [] h t = refl
+no-counts (a ∷ s) [] t = refl
+no-counts (a ∷ s) (b ∷ h) [] = refl
+no-counts (a ∷ s) (b ∷ h) (c ∷ t) = refl
+
+pub entries-drop : (k : ℕ) (s h t n : List ℕ)
+    → entries (drop k s) (drop k h) (drop k t) (drop k n) ≡ drop k (entries s h t n)
+unfolding entries
+entries-drop zero s h t n = refl
+entries-drop (suc k) [] h t n = refl
+entries-drop (suc k) (a ∷ s) [] t n = no-holders (drop k s) (drop (suc k) t) (drop (suc k) n)
+entries-drop (suc k) (a ∷ s) (b ∷ h) [] n = no-times (drop k s) (drop k h) (drop (suc k) n)
+entries-drop (suc k) (a ∷ s) (b ∷ h) (c ∷ t) [] = no-counts (drop k s) (drop k h) (drop k t)
+entries-drop (suc k) (a ∷ s) (b ∷ h) (c ∷ t) (d ∷ n) = entries-drop k s h t n
+
+-- ---- four lists as long as each other
+module _ (s h t n : List ℕ) (eh : length h ≡ length s) (et : length t ≡ length s) (en : length n ≡ length s) where
+  pub entries-length : length (entries s h t n) ≡ length s
+  entries-length = omega (arith, entries-count s h t n)
+
+  pub entries-nth : (i : ℕ) → i < length s
+      → getD (entries s h t n) i noEntry
+      ≡ record { slot = getD s i 0; holder = getD h i 0; time = getD t i 0; count = getD n i 0 }
+  entries-nth i q = entries-at s h t n i (omega (arith, entries-count s h t n))
+
+pub entries-append : (s h t n s2 h2 t2 n2 : List ℕ)
+    → length h ≡ length s → length t ≡ length s → length n ≡ length s
+    → entries (s ++ s2) (h ++ h2) (t ++ t2) (n ++ n2) ≡ entries s h t n ++ entries s2 h2 t2 n2
+unfolding entries
+entries-append [] [] [] [] s2 h2 t2 n2 eh et en = refl
+entries-append [] [] [] (d ∷ n) s2 h2 t2 n2 eh et en = absurd (omega arith)
+entries-append [] [] (c ∷ t) n s2 h2 t2 n2 eh et en = absurd (omega arith)
+entries-append [] (b ∷ h) t n s2 h2 t2 n2 eh et en = absurd (omega arith)
+entries-append (a ∷ s) [] t n s2 h2 t2 n2 eh et en = absurd (omega arith)
+entries-append (a ∷ s) (b ∷ h) [] n s2 h2 t2 n2 eh et en = absurd (omega arith)
+entries-append (a ∷ s) (b ∷ h) (c ∷ t) [] s2 h2 t2 n2 eh et en = absurd (omega arith)
+entries-append (a ∷ s) (b ∷ h) (c ∷ t) (d ∷ n) s2 h2 t2 n2 eh et en =
+    ap (λ (l : List Entry). record { slot = a; holder = b; time = c; count = d } ∷ l)
+    (entries-append s h t n s2 h2 t2 n2 (omega arith) (omega arith) (omega arith))
+
+-- ---- an outlived entry is seen by the times alone
+pub outlived-times : (mark : ℕ) (s h t n : List ℕ)
+    → some? (λ (e : Entry). not (lives mark e)) (entries s h t n)
+    ≡ some? (λ (x : ℕ). ltb x (mark - 5000)) (take (length (entries s h t n)) t)
+unfolding entries some?
+outlived-times mark [] h t n = refl
+outlived-times mark (a ∷ s) [] t n = refl
+outlived-times mark (a ∷ s) (b ∷ h) [] n = refl
+outlived-times mark (a ∷ s) (b ∷ h) (c ∷ t) [] = refl
+outlived-times mark (a ∷ s) (b ∷ h) (c ∷ t) (d ∷ n) =
+    rw (outlived mark (record { slot = a; holder = b; time = c; count = d }), outlived-times mark s h t n)
+
+-- a memory with no outlived entry, by its times, as a purge leaves it
+pub none-outlived : (mark : ℕ) (s h t n : List ℕ) (k : ℕ) → k ≡ length (entries s h t n)
+    → some? (λ (x : ℕ). ltb x (mark - 5000)) (take k t) ≡ false
+    → (k ≡ length (keep (lives mark) (entries s h t n)))
+    × (entries s h t n ≡ keep (lives mark) (entries s h t n) ++ drop k (entries s h t n))
+none-outlived mark s h t n k e f =
+    let all : keep (lives mark) (entries s h t n) ≡ entries s h t n
+    = fresh mark (entries s h t n) (outlived-times mark s h t n ∙ rw e at f) in
+    let rest : drop k (entries s h t n) ≡ [] = drop-of-length-le (entries s h t n) {i = k} (omega arith) in
+    (rw all e, rw (all, rest, append-nil))

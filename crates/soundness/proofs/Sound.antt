@@ -1,0 +1,81 @@
+-- Objects sound by the ends of their extents, place by place; of narrow ones that is the rules' `soundObject`.
+use mathlib.Core.Path.{_≡_, refl, sym, ap, _∙_}
+use mathlib.Core.Bool.{Bool, true, false, _&&_}
+use mathlib.Core.List.{List, map}
+use Prim.Native.Nat.{ℕ, zero, suc, _+_, _%_, _^_, _≤_, _<_}
+use native.Mathlib.Numerals.{add-one}
+use native.Mathlib.Decide.{decLt}
+use native.Mathlib.Omega.{arith}
+use lib.Dec.{leb}
+use lib.ListN.{length, getD, take}
+use borrow.Author.Tests.{ltb-true, lt-ltb, le-ltb, le-leb, lt-leb}
+use Rattle.lemmas.specs.Tests.{_under_}
+use Rattle.lemmas.specs.Lists.{every}
+use Rattle.lemmas.specs.ListLaws.{nth-map, every-nth}
+use Rattle.lemmas.specs.Loops.{every-take}
+use Rattle.rules.specs.declared.Object.{Object}
+use Rattle.rules.specs.Drive.{soundObject}
+use Rattle.rules.specs.Operations.{noObject}
+use Rattle.soundness.specs.Spans.{endOf, narrow, soundSpan, soundAt, each}
+
+and-none : (a : Bool) → (a && false) ≡ false
+and-none true = refl
+and-none false = refl
+
+and-assoc : (a b c : Bool) → (a && b && c) ≡ (a && (b && c))
+and-assoc true b c = refl
+and-assoc false b c = refl
+
+module _ (q last : ℕ) (small : q < 2 ^ 32) where
+  -- an extent that is not empty and ends inside the quarter, by either sum
+  inside : (s z : ℕ) → z < 2 ^ 32 → (s under ((s + z) % 2 ^ 32) && leb ((s + z) % 2 ^ 32) q) ≡ (leb 1 z && leb (s + z) q)
+  inside s z h = elim (decLt (s + z) (2 ^ 32)) [
+    | yes m ↦ let e : (s + z) % 2 ^ 32 ≡ s + z = omega arith in rw e (ap (λ (b : Bool). b && leb (s + z) q) (some s z))
+    | no m ↦
+        let over : (s + z) % 2 ^ 32 ≤ s = omega arith in
+        rw (le-ltb s ((s + z) % 2 ^ 32) over, lt-leb (s + z) q (omega arith)) (sym (and-none (leb 1 z)))
+  ]
+    where
+      some : (s z : ℕ) → (s under (s + z)) ≡ leb 1 z
+      some s zero = le-ltb s (s + 0) (omega arith) ∙ sym (lt-leb 1 0 (omega arith))
+      some s (suc z) = lt-ltb s (s + suc z) (omega arith) ∙ sym (le-leb 1 (suc z) (omega arith))
+
+  sound-one : (o : Object) → narrow o ≡ true
+      → soundSpan q last (o .number) (o .start) (endOf o) (o .version) ≡ soundObject q last o
+  unfolding soundObject
+  sound-one o w =
+      let n = leb 1 (o .number) in
+      ap (λ (b : Bool). b && leb (o .version) last)
+      (and-assoc n (o .start under endOf o) (leb (endOf o) q)
+      ∙ ap (λ (b : Bool). n && b) (inside (o .start) (o .size) (ltb-true (o .size) (2 ^ 32) w))
+      ∙ sym (and-assoc n (leb 1 (o .size)) (leb (o .start + o .size) q)))
+
+  module _ (l : List Object) (w : every narrow l ≡ true) where
+    test : ℕ → Bool
+    test = soundAt q last (map Object.number l) (map Object.start l) (map endOf l) (map Object.version l)
+
+    sound-at : (i : ℕ) → test i ≡ soundObject q last (getD l i noObject)
+    unfolding test
+    sound-at i =
+        rw (
+          nth-map Object.number l i noObject,
+          nth-map Object.start l i noObject,
+          nth-map endOf l i noObject,
+          nth-map Object.version l i noObject,
+        ) (sound-one (getD l i noObject) (every-nth narrow l i noObject refl w))
+
+    up-to : (k : ℕ) → k ≤ length l → each test k ≡ every (soundObject q last) (take k l)
+    unfolding each every
+    up-to zero g = refl
+    up-to (suc k) g =
+        let t = soundObject q last in
+        let more : every t (take (suc k) l) ≡ every t (take k l) && t (getD l k noObject) =
+        ap (λ (j : ℕ). every t (take j l)) (sym (add-one k)) ∙ every-take t l k noObject (omega arith) in
+        rw (up-to k (omega arith), sound-at k) (sym more)
+
+    -- what the loop over the first n finds
+    pub sound-each : (numbers starts ends versions : List ℕ) (n : ℕ) → n ≤ length l
+        → numbers ≡ map Object.number l → starts ≡ map Object.start l → ends ≡ map endOf l → versions ≡ map Object.version l
+        → each (soundAt q last numbers starts ends versions) n ≡ every (soundObject q last) (take n l)
+    unfolding test
+    sound-each numbers starts ends versions n h e f g k = rw (e, f, g, k) (up-to n h)

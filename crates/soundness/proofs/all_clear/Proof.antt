@@ -1,0 +1,43 @@
+-- free tells of the places under i (each-more); those from n on count as clear (each-first).
+use mathlib.Core.Path.{_≡_, refl, _∙_}
+use mathlib.Core.Bool.{_||_}
+use Prim.Native.Nat.{ℕ, _-_, _≤_}
+use native.Mathlib.Omega.{arith}
+use lib.Dec.{leb}
+use lib.ListN.{getD}
+use borrow.Author.Needs.{needs}
+use Rattle.soundness.specs.Spans.{clearAt, each, each-more}
+use Rattle.soundness.proofs.Places.{passed, each-first}
+use Rattle.soundness.proofs.all_clear.Statement.{statement}
+use Rattle.soundness.proofs.all_clear.Tie as tie
+
+abbrev Inv-loop : tie.InvT-loop
+Inv-loop numbers starts ends n places first most free₀ i₀ free i =
+    (i ≤ most) × (free ≡ each (λ (k : ℕ). leb first (getD places k 0) || clearAt numbers starts ends k) i)
+
+abbrev μ-loop : tie.MeasureT-loop
+μ-loop numbers starts ends n places first most free₀ i₀ free i = most - i
+
+loop-holds : tie.Need-loop-holds Inv-loop μ-loop
+unfolding each
+loop-holds c = (search needs, refl)
+
+loop-again : tie.Need-loop-again Inv-loop μ-loop
+loop-again c =
+    let l = c .before .before .loop in
+    let a = c .before .before .before .args in
+    let t = clearAt (a .numbers .now) (a .starts .now) (a .ends .now) in
+    (search needs, rw (each-more (passed t (a .n)) (l .i), l .inv .1, c .is-clear .ensures))
+
+returns : tie.Need-returns Inv-loop μ-loop
+returns c =
+    let l = c .before .loop in
+    let a = c .before .before .args in
+    l .inv .1 ∙ each-first (clearAt (a .numbers .now) (a .starts .now) (a .ends .now)) (a .n) (l .i) (omega arith) (omega arith)
+
+pub all-clear-spec : {M : Type 1} → statement M
+all-clear-spec =
+    tie.close
+    (tie.spec
+    Inv-loop μ-loop (λ c. search needs) (λ c. search needs) (λ c. search needs) (λ c. search needs) loop-holds (λ c. search needs) (λ c. search needs)
+    (λ c κs. search needs) (λ c. search needs) (λ c. search needs) loop-again returns)
