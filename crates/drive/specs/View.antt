@@ -23,11 +23,15 @@ memoriesIn [] l = []
 memoriesIn (n ∷ ns) l =
     padded mostEntries noEntry n (take mostEntries l) ∷ memoriesIn ns (drop mostEntries l)
 
+-- the memories of the five arrays of a drive: lengths, slots, holders, times, counts
+abbrev pub memoriesOf : List ℕ → List ℕ → List ℕ → List ℕ → List ℕ → List (List Entry)
+memoriesOf ns s h t n = memoriesIn ns (entries s h t n)
+
 unfoldable pub view : Drive → rules.Drive
 view d = record {
   size = d .size;
   tables = record { highWater = d .highwater; keys = keysOf (d .keys); partitions = map viewed (d .partitions) };
-  memories = memoriesIn (d .lengths) (entries (d .slots) (d .holders) (d .times) (d .counts));
+  memories = memoriesOf (d .lengths) (d .slots) (d .holders) (d .times) (d .counts);
 }
 
 -- ---- a record of which no count passes its array, as every sound one is

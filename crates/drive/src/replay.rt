@@ -6,8 +6,7 @@ ghost use lib.ListN.{getD};
 ghost use Rattle.lemmas.specs.Lists.{keep, some?, update};
 ghost use Rattle.rules.specs.declared.Entry.{Entry};
 ghost use Rattle.rules.specs.Drive.{lives, mostEntries, sameEntry};
-ghost use Rattle.memory.specs.Memory.{entries};
-ghost use Rattle.drive.specs.View.{memoriesIn, Placed};
+ghost use Rattle.drive.specs.View.{memoriesOf, Placed};
 use rules::Entry;
 
 // Drops the outlived entries of every memory.
@@ -20,8 +19,8 @@ pub fn drop_outlived(
     mark: u64,
 )
     requires { ⌜ Placed (now lengths) (now slots) (now holders) (now times) (now counts) ⌝ }
-    ensures { λ r. ⌜ (memoriesIn (now (lengths .exit)) (entries (now (slots .exit)) (now (holders .exit)) (now (times .exit)) (now (counts .exit)))
-        ≡ map (keep (lives mark)) (memoriesIn (now (lengths .entry)) (entries (now (slots .entry)) (now (holders .entry)) (now (times .entry)) (now (counts .entry)))))
+    ensures { λ r. ⌜ (memoriesOf (now (lengths .exit)) (now (slots .exit)) (now (holders .exit)) (now (times .exit)) (now (counts .exit))
+        ≡ map (keep (lives mark)) (memoriesOf (now (lengths .entry)) (now (slots .entry)) (now (holders .entry)) (now (times .entry)) (now (counts .entry))))
         × Placed (now (lengths .exit)) (now (slots .exit)) (now (holders .exit)) (now (times .exit)) (now (counts .exit)) ⌝ }
 {
     let mut m = 0;
@@ -51,7 +50,7 @@ pub fn is_replayed(
     nonce: Entry,
 ) -> bool
     requires { ⌜ Placed (now lengths) (now slots) (now holders) (now times) (now counts) × (k < 5) ⌝ }
-    ensures { λ r. ⌜ r ≡ some? (sameEntry nonce) (getD (memoriesIn (now (lengths .entry)) (entries (now (slots .entry)) (now (holders .entry)) (now (times .entry)) (now (counts .entry)))) k []) ⌝ }
+    ensures { λ r. ⌜ r ≡ some? (sameEntry nonce) (getD (memoriesOf (now (lengths .entry)) (now (slots .entry)) (now (holders .entry)) (now (times .entry)) (now (counts .entry))) k []) ⌝ }
 {
     let start = 64 * k;
     let end = start + lengths[k];
@@ -75,8 +74,8 @@ pub fn enter(
     nonce: Entry,
 )
     requires { ⌜ Placed (now lengths) (now slots) (now holders) (now times) (now counts) × (k < 5) × (getD (now lengths) k 0 < mostEntries) ⌝ }
-    ensures { λ r. ⌜ memoriesIn (now (lengths .exit)) (entries (now (slots .exit)) (now (holders .exit)) (now (times .exit)) (now (counts .exit)))
-        ≡ update k (λ (old : List Entry). old ++ (nonce ∷ [])) (memoriesIn (now (lengths .entry)) (entries (now (slots .entry)) (now (holders .entry)) (now (times .entry)) (now (counts .entry)))) ⌝ }
+    ensures { λ r. ⌜ memoriesOf (now (lengths .exit)) (now (slots .exit)) (now (holders .exit)) (now (times .exit)) (now (counts .exit))
+        ≡ update k (λ (old : List Entry). old ++ (nonce ∷ [])) (memoriesOf (now (lengths .entry)) (now (slots .entry)) (now (holders .entry)) (now (times .entry)) (now (counts .entry))) ⌝ }
 {
     let held = lengths[k];
     let at = 64 * k + held;

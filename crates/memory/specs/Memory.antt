@@ -1,11 +1,12 @@
 -- Document 01, "Drive state", nonce memories: a memory of the record as the rules see it. mark: the drive's time.
 use mathlib.Core.Path.{_≡_}
 use mathlib.Core.Bool.{true, false, not}
-use mathlib.Core.List.{List, [], _∷_}
+use mathlib.Core.List.{List, [], _∷_, _++_}
 use Prim.Native.Nat.{ℕ, _+_, _-_, _<_, _≤_, min}
 use native.Mathlib.Omega.{arith}
 use native.Mathlib.Decide.{decLt}
 use lib.Dec.{ltb}
+use lib.ListN.{length, drop}
 use borrow.Author.Tests.{le-leb, lt-leb, lt-ltb, le-ltb}
 use Rattle.lemmas.specs.Lists.{some?, keep}
 use Rattle.lemmas.specs.Loops.{keep-all}
@@ -24,6 +25,16 @@ entries (a ∷ s) (b ∷ h) (c ∷ t) (d ∷ n) = record { slot = a; holder = b;
 -- the smallest of four: how many entries four lists of these lengths make
 abbrev pub fewest : ℕ → ℕ → ℕ → ℕ → ℕ
 fewest a b c d = min (min a b) (min c d)
+
+-- what a purge at a mark makes of the four lists s, h, t, n: r entries at the front of a, b, c, d, those that live, in their
+-- order, and behind them what stood there
+pub record Purged (mark : ℕ) (s h t n a b c d : List ℕ) (r : ℕ) : Type 0 where
+  pub count : r ≡ length (keep (lives mark) (entries s h t n))
+  pub left : entries a b c d ≡ keep (lives mark) (entries s h t n) ++ drop r (entries s h t n)
+  pub slots : length a ≡ length s
+  pub holders : length b ≡ length h
+  pub times : length c ≡ length t
+  pub counts : length d ≡ length n
 
 -- what stands past the end of a list of entries
 abbrev pub noEntry : Entry

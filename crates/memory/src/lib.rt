@@ -2,13 +2,12 @@
 // counts, one number of each entry in each. Everything is total: where the slices differ in length, the entries are as
 // many as the shortest has.
 ghost use mathlib.Core.Path.{_≡_};
-ghost use mathlib.Core.List.{_++_};
 ghost use Prim.Native.Nat.{ℕ, _-_, _≤_};
 ghost use lib.Dec.{ltb};
-ghost use lib.ListN.{length, take, drop};
-ghost use Rattle.lemmas.specs.Lists.{some?, keep};
-ghost use Rattle.rules.specs.Drive.{lives, sameEntry};
-ghost use Rattle.memory.specs.Memory.{entries, fewest};
+ghost use lib.ListN.{length, take};
+ghost use Rattle.lemmas.specs.Lists.{some?};
+ghost use Rattle.rules.specs.Drive.{sameEntry};
+ghost use Rattle.memory.specs.Memory.{entries, fewest, Purged};
 use lemmas::within;
 use rules::Entry;
 
@@ -51,16 +50,8 @@ fn compact(
     mark: u64,
 ) -> usize
     requires { ⌜ n ≡ fewest (length (now slots)) (length (now holders)) (length (now times)) (length (now counts)) ⌝ }
-    ensures { λ r. ⌜ (r ≡ length (keep (lives mark)
-        (entries (now (slots .entry)) (now (holders .entry)) (now (times .entry)) (now (counts .entry)))))
-        × (entries (now (slots .exit)) (now (holders .exit)) (now (times .exit)) (now (counts .exit))
-        ≡ keep (lives mark)
-        (entries (now (slots .entry)) (now (holders .entry)) (now (times .entry)) (now (counts .entry)))
-        ++ drop r (entries (now (slots .entry)) (now (holders .entry)) (now (times .entry)) (now (counts .entry))))
-        × (length (now (slots .exit)) ≡ length (now (slots .entry)))
-        × (length (now (holders .exit)) ≡ length (now (holders .entry)))
-        × (length (now (times .exit)) ≡ length (now (times .entry)))
-        × (length (now (counts .exit)) ≡ length (now (counts .entry))) ⌝ }
+    ensures { λ r. ⌜ Purged mark (now (slots .entry)) (now (holders .entry)) (now (times .entry)) (now (counts .entry))
+        (now (slots .exit)) (now (holders .exit)) (now (times .exit)) (now (counts .exit)) r ⌝ }
 {
     let floor = floor_of(mark);
     let mut k = 0;
@@ -91,16 +82,8 @@ pub fn purge(
     counts: &mut [u32],
     mark: u64,
 ) -> usize
-    ensures { λ r. ⌜ (r ≡ length (keep (lives mark)
-        (entries (now (slots .entry)) (now (holders .entry)) (now (times .entry)) (now (counts .entry)))))
-        × (entries (now (slots .exit)) (now (holders .exit)) (now (times .exit)) (now (counts .exit))
-        ≡ keep (lives mark)
-        (entries (now (slots .entry)) (now (holders .entry)) (now (times .entry)) (now (counts .entry)))
-        ++ drop r (entries (now (slots .entry)) (now (holders .entry)) (now (times .entry)) (now (counts .entry))))
-        × (length (now (slots .exit)) ≡ length (now (slots .entry)))
-        × (length (now (holders .exit)) ≡ length (now (holders .entry)))
-        × (length (now (times .exit)) ≡ length (now (times .entry)))
-        × (length (now (counts .exit)) ≡ length (now (counts .entry))) ⌝ }
+    ensures { λ r. ⌜ Purged mark (now (slots .entry)) (now (holders .entry)) (now (times .entry)) (now (counts .entry))
+        (now (slots .exit)) (now (holders .exit)) (now (times .exit)) (now (counts .exit)) r ⌝ }
 {
     let n = shortest(slots.len(), holders.len(), times.len(), counts.len());
     if !stale(&*times, n, mark) {

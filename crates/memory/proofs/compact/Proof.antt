@@ -66,14 +66,15 @@ returns c =
     let long = entries-count (a .slots .now) (a .holders .now) (a .times .now) (a .counts .now) in
     let long-now = entries-count (l .slots) (l .holders) (l .times) (l .counts) in
     let all : l .i ≡ length E = omega arith in
-    let same : length X ≡ length E = omega arith in (
-      moves-count (lives (a .mark)) E X (l .i) (l .k) noEntry (l .inv .1) same (l .inv .6) (l .inv .7) all,
-      moves-all (lives (a .mark)) E X (l .i) (l .k) noEntry (l .inv .1) same (l .inv .6) (l .inv .7) all,
-      l .inv .2,
-      l .inv .3,
-      l .inv .4,
-      l .inv .5,
-    )
+    let same : length X ≡ length E = omega arith in
+    record {
+      count = moves-count (lives (a .mark)) E X (l .i) (l .k) noEntry (l .inv .1) same (l .inv .6) (l .inv .7) all;
+      left = moves-all (lives (a .mark)) E X (l .i) (l .k) noEntry (l .inv .1) same (l .inv .6) (l .inv .7) all;
+      slots = l .inv .2;
+      holders = l .inv .3;
+      times = l .inv .4;
+      counts = l .inv .5;
+    }
 
 pub compact-spec : {M : Type 1} → statement M
 compact-spec =

@@ -15,7 +15,7 @@ returns c =
     let n = a .counts .now in
     let k = c .before .before .before .shortest in
     let same = none-outlived (a .mark) s h t n (k .result) (k .ensures ∙ sym (entries-count s h t n)) (sym (c .before .stale .ensures) ∙ not-true (c .before .stale .result) (c .if1 .taken)) in
-    (same .0, same .1, refl, refl, refl, refl)
+    record { count = same .0; left = same .1; slots = refl; holders = refl; times = refl; counts = refl }
 
 pub purge-spec : {M : Type 1} → statement M
 purge-spec =
