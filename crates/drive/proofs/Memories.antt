@@ -12,7 +12,6 @@ use borrow.Author.Tests.{le-leb, leb-true}
 use borrow.Rule.Slice.PartMut.{midOf, putMid, same-len-mid}
 use lib.ListN.{length, getD, take, drop, set, length-take, length-drop, length-set}
 use lib.Seq.{
-  take-at,
   take-take,
   drop-drop,
   drop-at,
@@ -29,9 +28,19 @@ use Rattle.lemmas.specs.Lists.{every, keep, update}
 use Rattle.lemmas.specs.ListLaws.{every-nth, length-keep}
 use Rattle.rules.specs.declared.Entry.{Entry}
 use Rattle.rules.specs.Drive.{lives, mostEntries, refresh}
-use Rattle.memory.specs.Memory.{entries, noEntry}
+use Rattle.memory.specs.Memory.{entries, noEntry, Purged}
 use Rattle.partition.specs.Padded.{padded, padded-is, padded-length}
-use Rattle.memory.specs.Entries.{entries-length, entries-set, entries-append, entries-take, entries-drop}
+use Rattle.memory.specs.Entries.{
+  entries-length,
+  entries-set,
+  entries-append,
+  entries-take,
+  entries-drop,
+  purged-slots,
+  purged-holders,
+  purged-times,
+  purged-counts,
+}
 use Rattle.drive.specs.declared.Drive.{Drive}
 use Rattle.drive.specs.View.{view, memoriesIn, short, Placed}
 use Rattle.drive.proofs.Turned.{every-set}
@@ -177,8 +186,20 @@ module _ (ns s h t n : List ℕ) (w : Placed ns s h t n) where
 
     -- what a purge of that part left: r entries, in ss, hs, ts and cs
     module _ (mark size r : ℕ) (whole : size ≡ getD ns k 0) (ss hs ts cs : List ℕ)
-        (ls : length ss ≡ length (midOf (64 * k) size s)) (lh : length hs ≡ length (midOf (64 * k) size h))
-        (lt : length ts ≡ length (midOf (64 * k) size t)) (lc : length cs ≡ length (midOf (64 * k) size n)) where
+        (p : Purged mark (midOf (64 * k) size s) (midOf (64 * k) size h) (midOf (64 * k) size t) (midOf (64 * k) size n)
+        ss hs ts cs r) where
+      ls : length ss ≡ length (midOf (64 * k) size s)
+      ls = purged-slots mark _ _ _ _ ss hs ts cs r p
+
+      lh : length hs ≡ length (midOf (64 * k) size h)
+      lh = purged-holders mark _ _ _ _ ss hs ts cs r p
+
+      lt : length ts ≡ length (midOf (64 * k) size t)
+      lt = purged-times mark _ _ _ _ ss hs ts cs r p
+
+      lc : length cs ≡ length (midOf (64 * k) size n)
+      lc = purged-counts mark _ _ _ _ ss hs ts cs r p
+
       abbrev held : List Entry
       held = part size whole
 
@@ -218,41 +239,38 @@ module _ (ns s h t n : List ℕ) (w : Placed ns s h t n) where
           entries-length ss hs ts cs (lh ∙ long-in h (w .holders) ∙ sym (ls ∙ ps)) (lt ∙ long-in t (w .times) ∙ sym (ls ∙ ps))
           (lc ∙ long-in n (w .counts) ∙ sym (ls ∙ ps)) ∙ ls ∙ ps
 
-      module _ (count : r ≡ length (keep (lives mark) held)) (left : entries ss hs ts cs ≡ keep (lives mark) held ++ drop r held)
+      r-low : r ≤ size
+      r-low =
+          let a = length-keep (lives mark) held in
+          let n = p .count in
+          let b : length held ≡ size = ap length (part-is size whole) ∙ length-take size (drop (64 * k) all) ∙ whole-long in
+          omega arith
         where
-          r-low : r ≤ size
-          r-low =
-              let a = length-keep (lives mark) held in
-              let b : length held ≡ size = ap length (part-is size whole) ∙ length-take size (drop (64 * k) all) ∙ whole-long in
+          whole-long : min size (length (drop (64 * k) all)) ≡ size
+          whole-long =
+              let a = length-drop (64 * k) all in
+              let b = places in
+              let c = fits in
               omega arith
-            where
-              whole-long : min size (length (drop (64 * k) all)) ≡ size
-              whole-long =
-                  let a = length-drop (64 * k) all in
-                  let b = places in
-                  let c = fits in
-                  omega arith
 
-          pub purged-at : memoriesIn (set ns k r) (entries (putMid (64 * k) size s ss) (putMid (64 * k) size h hs)
-              (putMid (64 * k) size t ts) (putMid (64 * k) size n cs))
-              ≡ update k (λ (old : List Entry). keep (lives mark) (getD (memoriesIn ns all) k [])) (memoriesIn ns all)
-          purged-at =
-              let first : take r (entries ss hs ts cs) ≡ keep (lives mark) held =
-              ap (take r) left ∙ take-at (keep (lives mark) held) (drop r held) r (sym count) in
-              ap (memoriesIn (set ns k r)) put-is
-              ∙ memory-dropped ns all k size r (entries ss hs ts cs) (omega (arith, w .five)) left-long fits r-low enough
-              ∙ ap (λ (x : List Entry). update k (λ (old : List Entry). x) (memoriesIn ns all)) (first ∙ ap (keep (lives mark)) (part-at size whole))
+      pub purged-at : memoriesIn (set ns k r) (entries (putMid (64 * k) size s ss) (putMid (64 * k) size h hs)
+          (putMid (64 * k) size t ts) (putMid (64 * k) size n cs))
+          ≡ update k (λ (old : List Entry). keep (lives mark) (getD (memoriesIn ns all) k [])) (memoriesIn ns all)
+      purged-at =
+          ap (memoriesIn (set ns k r)) put-is
+          ∙ memory-dropped ns all k size r (entries ss hs ts cs) (omega (arith, w .five)) left-long fits r-low enough
+          ∙ ap (λ (x : List Entry). update k (λ (old : List Entry). x) (memoriesIn ns all)) (p .front ∙ ap (keep (lives mark)) (part-at size whole))
 
-          pub placed-still : Placed (set ns k r) (putMid (64 * k) size s ss) (putMid (64 * k) size h hs)
-              (putMid (64 * k) size t ts) (putMid (64 * k) size n cs)
-          placed-still = record {
-            five = length-set ns k r ∙ w .five;
-            entries = every-set short ns k r (le-leb r mostEntries (omega (arith, r-low, fits))) (w .entries);
-            slots = same-len-mid (64 * k) size s ss ls ∙ w .slots;
-            holders = same-len-mid (64 * k) size h hs lh ∙ w .holders;
-            times = same-len-mid (64 * k) size t ts lt ∙ w .times;
-            counts = same-len-mid (64 * k) size n cs lc ∙ w .counts;
-          }
+      pub placed-still : Placed (set ns k r) (putMid (64 * k) size s ss) (putMid (64 * k) size h hs)
+          (putMid (64 * k) size t ts) (putMid (64 * k) size n cs)
+      placed-still = record {
+        five = length-set ns k r ∙ w .five;
+        entries = every-set short ns k r (le-leb r mostEntries (omega (arith, r-low, fits))) (w .entries);
+        slots = same-len-mid (64 * k) size s ss ls ∙ w .slots;
+        holders = same-len-mid (64 * k) size h hs lh ∙ w .holders;
+        times = same-len-mid (64 * k) size t ts lt ∙ w .times;
+        counts = same-len-mid (64 * k) size n cs lc ∙ w .counts;
+      }
 
 -- ---- the drive at a clock reading: its mark later, its memories without outlived entries
 pub refreshed-view : (d : Drive) (clock mark : ℕ) (ns s h t n : List ℕ) → mark ≡ max (d .highwater) clock

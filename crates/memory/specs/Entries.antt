@@ -1,16 +1,18 @@
 -- Laws of `entries`: what a length, a place, a store and a part of the four lists are of the entries.
-use mathlib.Core.Path.{_≡_, refl, ap, _∙_}
+use mathlib.Core.Path.{_≡_, refl, sym, ap, _∙_}
 use mathlib.Core.Bool.{false, not}
-use mathlib.Core.List.{List, [], _∷_, _++_, append-nil}
-use Prim.Native.Nat.{ℕ, zero, suc, _-_, _<_}
+use mathlib.Core.List.{List, [], _∷_, _++_}
+use Prim.Native.Nat.{ℕ, zero, suc, _-_, _≤_, _<_}
 use native.Mathlib.Nat.{not-suc-le-zero, le-of-suc-le-suc}
 use native.Mathlib.Omega.{arith}
 use lib.Dec.{ltb}
-use lib.ListN.{length, getD, take, drop, set, drop-of-length-le}
+use lib.ListN.{length, getD, take, drop, set, length-take, length-drop}
+use lib.Seq.{take-all}
 use Rattle.lemmas.specs.Lists.{some?, keep}
+use Rattle.lemmas.specs.ListLaws.{length-keep}
 use Rattle.rules.specs.declared.Entry.{Entry}
 use Rattle.rules.specs.Drive.{lives}
-use Rattle.memory.specs.Memory.{entries, fewest, noEntry, outlived, fresh}
+use Rattle.memory.specs.Memory.{entries, fewest, noEntry, outlived, fresh, Purged}
 
 -- ---- lists of any lengths
 pub entries-count : (s h t n : List ℕ)
@@ -89,14 +91,9 @@ entries-drop (suc k) (a ∷ s) (b ∷ h) (c ∷ t) [] = no-counts (drop k s) (dr
 entries-drop (suc k) (a ∷ s) (b ∷ h) (c ∷ t) (d ∷ n) = entries-drop k s h t n
 
 -- ---- four lists as long as each other
-module _ (s h t n : List ℕ) (eh : length h ≡ length s) (et : length t ≡ length s) (en : length n ≡ length s) where
-  pub entries-length : length (entries s h t n) ≡ length s
-  entries-length = omega (arith, entries-count s h t n)
-
-  pub entries-nth : (i : ℕ) → i < length s
-      → getD (entries s h t n) i noEntry
-      ≡ record { slot = getD s i 0; holder = getD h i 0; time = getD t i 0; count = getD n i 0 }
-  entries-nth i q = entries-at s h t n i (omega (arith, entries-count s h t n))
+pub entries-length : (s h t n : List ℕ) → length h ≡ length s → length t ≡ length s → length n ≡ length s
+    → length (entries s h t n) ≡ length s
+entries-length s h t n eh et en = omega (arith, entries-count s h t n)
 
 pub entries-append : (s h t n s2 h2 t2 n2 : List ℕ)
     → length h ≡ length s → length t ≡ length s → length n ≡ length s
@@ -125,13 +122,44 @@ outlived-times mark (a ∷ s) (b ∷ h) (c ∷ t) [] = refl
 outlived-times mark (a ∷ s) (b ∷ h) (c ∷ t) (d ∷ n) =
     rw (outlived mark (record { slot = a; holder = b; time = c; count = d }), outlived-times mark s h t n)
 
--- a memory with no outlived entry, by its times, as a purge leaves it
+-- a memory with no outlived entry, by its times, is as a purge leaves it
 pub none-outlived : (mark : ℕ) (s h t n : List ℕ) (k : ℕ) → k ≡ length (entries s h t n)
-    → some? (λ (x : ℕ). ltb x (mark - 5000)) (take k t) ≡ false
-    → (k ≡ length (keep (lives mark) (entries s h t n)))
-    × (entries s h t n ≡ keep (lives mark) (entries s h t n) ++ drop k (entries s h t n))
+    → some? (λ (x : ℕ). ltb x (mark - 5000)) (take k t) ≡ false → Purged mark s h t n s h t n k
 none-outlived mark s h t n k e f =
     let all : keep (lives mark) (entries s h t n) ≡ entries s h t n
     = fresh mark (entries s h t n) (outlived-times mark s h t n ∙ rw e at f) in
-    let rest : drop k (entries s h t n) ≡ [] = drop-of-length-le (entries s h t n) {i = k} (omega arith) in
-    (rw all e, rw (all, rest, append-nil))
+    record {
+      count = rw all e;
+      front = take-all k (entries s h t n) (omega arith) ∙ sym all;
+      slots = refl;
+      holders = refl;
+      times = refl;
+      counts = refl;
+    }
+
+-- ---- a purge leaves each list as long as it was
+as-long : (r : ℕ) (x y : List ℕ) → r ≤ length x → r ≤ length y → drop r x ≡ drop r y → length x ≡ length y
+as-long r x y p q e =
+    let cut : length (drop r x) ≡ length (drop r y) = ap length e in
+    omega (arith, length-drop r x, length-drop r y, cut)
+
+module _ (mark : ℕ) (s h t n a b c d : List ℕ) (r : ℕ) (p : Purged mark s h t n a b c d r) where
+  before : r ≤ fewest (length s) (length h) (length t) (length n)
+  before = omega (arith, p .count, length-keep (lives mark) (entries s h t n), entries-count s h t n)
+
+  after : r ≤ fewest (length a) (length b) (length c) (length d)
+  after =
+      let whole : length (take r (entries a b c d)) ≡ r = ap length (p .front) ∙ sym (p .count) in
+      omega (arith, whole, length-take r (entries a b c d), entries-count a b c d)
+
+  pub purged-slots : length a ≡ length s
+  purged-slots = as-long r a s (omega (arith, after)) (omega (arith, before)) (p .slots)
+
+  pub purged-holders : length b ≡ length h
+  purged-holders = as-long r b h (omega (arith, after)) (omega (arith, before)) (p .holders)
+
+  pub purged-times : length c ≡ length t
+  purged-times = as-long r c t (omega (arith, after)) (omega (arith, before)) (p .times)
+
+  pub purged-counts : length d ≡ length n
+  purged-counts = as-long r d n (omega (arith, after)) (omega (arith, before)) (p .counts)

@@ -6,7 +6,7 @@ use Prim.Native.Nat.{ℕ, _+_, _-_, _<_, _≤_, min}
 use native.Mathlib.Omega.{arith}
 use native.Mathlib.Decide.{decLt}
 use lib.Dec.{ltb}
-use lib.ListN.{length, drop}
+use lib.ListN.{length, take, drop}
 use borrow.Author.Tests.{le-leb, lt-leb, lt-ltb, le-ltb}
 use Rattle.lemmas.specs.Lists.{some?, keep}
 use Rattle.lemmas.specs.Loops.{keep-all}
@@ -26,15 +26,15 @@ entries (a ∷ s) (b ∷ h) (c ∷ t) (d ∷ n) = record { slot = a; holder = b;
 abbrev pub fewest : ℕ → ℕ → ℕ → ℕ → ℕ
 fewest a b c d = min (min a b) (min c d)
 
--- what a purge at a mark makes of the four lists s, h, t, n: r entries at the front of a, b, c, d, those that live, in their
--- order, and behind them what stood there
+-- what a purge at a mark makes of the four lists s, h, t, n: a, b, c, d, whose first r entries are those that live, in their
+-- order; from place r on each list is as it was
 pub record Purged (mark : ℕ) (s h t n a b c d : List ℕ) (r : ℕ) : Type 0 where
   pub count : r ≡ length (keep (lives mark) (entries s h t n))
-  pub left : entries a b c d ≡ keep (lives mark) (entries s h t n) ++ drop r (entries s h t n)
-  pub slots : length a ≡ length s
-  pub holders : length b ≡ length h
-  pub times : length c ≡ length t
-  pub counts : length d ≡ length n
+  pub front : take r (entries a b c d) ≡ keep (lives mark) (entries s h t n)
+  pub slots : drop r a ≡ drop r s
+  pub holders : drop r b ≡ drop r h
+  pub times : drop r c ≡ drop r t
+  pub counts : drop r d ≡ drop r n
 
 -- what stands past the end of a list of entries
 abbrev pub noEntry : Entry

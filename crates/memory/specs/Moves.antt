@@ -15,6 +15,12 @@ use Rattle.rules.specs.Drive.{lives}
 use Rattle.memory.specs.Memory.{entries, noEntry, lives-yes, lives-no}
 use Rattle.memory.specs.Entries.{entries-at, entries-set, entries-take, entries-drop, entries-append}
 
+-- a store at k leaves what stands behind it
+pub stored-back : {A : Type 0} (es xs : List A) (k : ℕ) (a : A) → drop k xs ≡ drop k es
+    → drop (k + 1) (set xs k a) ≡ drop (k + 1) es
+stored-back es xs k a back =
+    drop-set-lt (k + 1) xs k a (omega arith) ∙ sym (drop-drop 1 k xs) ∙ ap (drop 1) back ∙ drop-drop 1 k es
+
 module _ {A : Type 0} (t : A → Bool) (es xs : List A) (i k : ℕ) (d : A) (low : k ≤ i)
     (same : length xs ≡ length es) (front : take k xs ≡ keep t (take i es)) (back : drop k xs ≡ drop k es) where
   -- no place from k on has changed
@@ -30,11 +36,6 @@ module _ {A : Type 0} (t : A → Bool) (es xs : List A) (i k : ℕ) (d : A) (low
       let m : k < length xs = omega arith in
       rw moves-at (keep-took t es xs i k d h front m (rw moves-at at p))
 
-  moves-back : (a : A) → drop (k + 1) (set xs k a) ≡ drop (k + 1) es
-  moves-back a =
-      drop-set-lt (k + 1) xs k a (omega arith) ∙ sym (drop-drop 1 k xs) ∙ ap (λ (l : List A). drop 1 l) back
-      ∙ drop-drop 1 k es
-
   -- one more passed and not kept
   moves-past : i < length es → t (getD xs i d) ≡ false → take k xs ≡ keep t (take (i + 1) es)
   moves-past h p = keep-passed t es xs i k d h front (rw moves-at at p)
@@ -45,13 +46,15 @@ module _ {A : Type 0} (t : A → Bool) (es xs : List A) (i k : ℕ) (d : A) (low
       let f : take i es ≡ es = take-all i es (omega arith) in
       sym (length-take-le k xs (omega arith)) ∙ ap length front ∙ ap (λ (l : List A). length (keep t l)) f
 
-  pub moves-all : i ≡ length es → xs ≡ keep t es ++ drop k es
-  moves-all e =
-      let f : take i es ≡ es = take-all i es (omega arith) in
-      sym (take-append-drop k xs) ∙ ap (λ (l : List A). l ++ drop k xs) (front ∙ ap (keep t) f)
-      ∙ ap (λ (l : List A). keep t es ++ l) back
+  pub moves-all : i ≡ length es → take k xs ≡ keep t es
+  moves-all e = front ∙ ap (keep t) (take-all i es (omega arith))
 
 -- ---- one turn over the four lists s, h, t, n of a memory
+-- lists that agree from k on have the same entries from k on
+pub back-of : (s h t n a b c d : List ℕ) (k : ℕ) → drop k a ≡ drop k s → drop k b ≡ drop k h → drop k c ≡ drop k t
+    → drop k d ≡ drop k n → drop k (entries a b c d) ≡ drop k (entries s h t n)
+back-of s h t n a b c d k es eh et en = sym (entries-drop k a b c d) ∙ rw (es, eh, et, en) (entries-drop k s h t n)
+
 module _ (mark : ℕ) (es : List Entry) (s h t n : List ℕ) (i k : ℕ) (low : k ≤ i) (more : i < length es)
     (same : length (entries s h t n) ≡ length es) (front : take k (entries s h t n) ≡ keep (lives mark) (take i es))
     (back : drop k (entries s h t n) ≡ drop k es) where
@@ -73,54 +76,7 @@ module _ (mark : ℕ) (es : List Entry) (s h t n : List ℕ) (i k : ℕ) (low : 
       ∙ moves-front (lives mark) es (entries s h t n) i k noEntry low same front back more
       (rw here (lives-yes mark (record { slot = getD s i 0; holder = getD h i 0; time = getD t i 0; count = getD n i 0 }) p))
 
-  pub kept-back : drop (k + 1) (entries (set s k (getD s i 0)) (set h k (getD h i 0)) (set t k (getD t i 0)) (set n k (getD n i 0)))
-      ≡ drop (k + 1) es
-  kept-back =
-      ap (drop (k + 1)) stored
-      ∙ moves-back (lives mark) es (entries s h t n) i k noEntry low same front back (getD (entries s h t n) i noEntry)
-
   pub not-kept : getD t i 0 < mark - 5000 → take k (entries s h t n) ≡ keep (lives mark) (take (i + 1) es)
   not-kept p =
       moves-past (lives mark) es (entries s h t n) i k noEntry low same front back more
       (rw here (lives-no mark (record { slot = getD s i 0; holder = getD h i 0; time = getD t i 0; count = getD n i 0 }) p))
-
--- ---- what a purge leaves, as its caller sees it: r entries at the front, and all else as it was
-module _ {A : Type 0} (t : A → Bool) (es xs : List A) (r : ℕ) (count : r ≡ length (keep t es))
-    (moved : xs ≡ keep t es ++ drop r es) where
-  pub purged-front : take r xs ≡ keep t es
-  purged-front = rw moved (take-at (keep t es) (drop r es) r (sym count))
-
-  pub purged-back : drop r xs ≡ drop r es
-  purged-back = rw moved (drop-at (keep t es) (drop r es) r (sym count))
-
--- ---- a purge of the first k places of longer lists, which were lent to it alone and came back as s2, h2, t2, n2
-module _ (mark : ℕ) (s h t n s2 h2 t2 n2 : List ℕ) (k r : ℕ)
-    (ks : k ≤ length s) (kh : k ≤ length h) (kt : k ≤ length t) (kn : k ≤ length n)
-    (ls : length s2 ≡ length (take k s)) (lh : length h2 ≡ length (take k h))
-    (lt : length t2 ≡ length (take k t)) (ln : length n2 ≡ length (take k n))
-    (count : r ≡ length (keep (lives mark) (entries (take k s) (take k h) (take k t) (take k n))))
-    (moved : entries s2 h2 t2 n2 ≡ keep (lives mark) (entries (take k s) (take k h) (take k t) (take k n))
-    ++ drop r (entries (take k s) (take k h) (take k t) (take k n))) where
-  pub part-count : r ≡ length (keep (lives mark) (take k (entries s h t n)))
-  part-count = rw (entries-take k s h t n) at count
-
-  joined : entries (s2 ++ drop k s) (h2 ++ drop k h) (t2 ++ drop k t) (n2 ++ drop k n)
-      ≡ entries s2 h2 t2 n2 ++ drop k (entries s h t n)
-  joined =
-      let es : length s2 ≡ k = ls ∙ length-take-le k s ks in
-      let eh : length h2 ≡ k = lh ∙ length-take-le k h kh in
-      let et : length t2 ≡ k = lt ∙ length-take-le k t kt in
-      let en : length n2 ≡ k = ln ∙ length-take-le k n kn in
-      entries-append s2 h2 t2 n2 (drop k s) (drop k h) (drop k t) (drop k n) (omega arith) (omega arith) (omega arith)
-      ∙ ap (λ (l : List Entry). entries s2 h2 t2 n2 ++ l) (entries-drop k s h t n)
-
-  pub part-moved : entries (s2 ++ drop k s) (h2 ++ drop k h) (t2 ++ drop k t) (n2 ++ drop k n)
-      ≡ keep (lives mark) (take k (entries s h t n)) ++ drop r (entries s h t n)
-  part-moved =
-      let E = entries s h t n in
-      let e : entries s2 h2 t2 n2 ≡ keep (lives mark) (take k E) ++ drop r (take k E) = rw (entries-take k s h t n) at moved in
-      let m : r ≤ length (take k E) = omega (arith, part-count, length-keep (lives mark) (take k E)) in
-      joined ∙ ap (λ (l : List Entry). l ++ drop k E) e
-      ∙ append-assoc (keep (lives mark) (take k E)) (drop r (take k E)) (drop k E)
-      ∙ ap (λ (l : List Entry). keep (lives mark) (take k E) ++ l)
-      (sym (drop-append-le r (take k E) (drop k E) m) ∙ ap (drop r) (take-append-drop k E))

@@ -1,5 +1,5 @@
 -- With no outlived time all stays as it is (none-outlived); else the entries are moved.
-use mathlib.Core.Path.{refl, sym, _∙_}
+use mathlib.Core.Path.{sym, _∙_}
 use borrow.Author.Needs.{needs}
 use borrow.Author.Tests.{not-true}
 use Rattle.memory.specs.Entries.{entries-count, none-outlived}
@@ -14,8 +14,7 @@ returns c =
     let t = a .times .now in
     let n = a .counts .now in
     let k = c .before .before .before .shortest in
-    let same = none-outlived (a .mark) s h t n (k .result) (k .ensures ∙ sym (entries-count s h t n)) (sym (c .before .stale .ensures) ∙ not-true (c .before .stale .result) (c .if1 .taken)) in
-    record { count = same .0; left = same .1; slots = refl; holders = refl; times = refl; counts = refl }
+    none-outlived (a .mark) s h t n (k .result) (k .ensures ∙ sym (entries-count s h t n)) (sym (c .before .stale .ensures) ∙ not-true (c .before .stale .result) (c .if1 .taken))
 
 pub purge-spec : {M : Type 1} → statement M
 purge-spec =

@@ -97,8 +97,8 @@ loop-again c =
     let five : length old ≡ 5 = memories-length (a .lengths .now) (entries (a .slots .now) (a .holders .now) (a .times .now) (a .counts .now)) ∙ w .five in
     let now : List (List Entry) = memoriesIn (l .lengths) (entries (l .slots) (l .holders) (l .times) (l .counts)) in (
       omega (arith, h .0),
-      placed-still (l .lengths) (l .slots) (l .holders) (l .times) (l .counts) (l .inv .1) (l .m) (h .0) (a .mark) size (p .result) whole (p .last .0) (p .last .1 .0) (p .last .1 .1 .0) (p .last .1 .1 .1 .0) (p .ensures .slots) (p .ensures .holders) (p .ensures .times) (p .ensures .counts) (p .ensures .count) (p .ensures .left),
-      purged-at (l .lengths) (l .slots) (l .holders) (l .times) (l .counts) (l .inv .1) (l .m) (h .0) (a .mark) size (p .result) whole (p .last .0) (p .last .1 .0) (p .last .1 .1 .0) (p .last .1 .1 .1 .0) (p .ensures .slots) (p .ensures .holders) (p .ensures .times) (p .ensures .counts) (p .ensures .count) (p .ensures .left)
+      placed-still (l .lengths) (l .slots) (l .holders) (l .times) (l .counts) (l .inv .1) (l .m) (h .0) (a .mark) size (p .result) whole (p .last .0) (p .last .1 .0) (p .last .1 .1 .0) (p .last .1 .1 .1 .0) (p .ensures),
+      purged-at (l .lengths) (l .slots) (l .holders) (l .times) (l .counts) (l .inv .1) (l .m) (h .0) (a .mark) size (p .result) whole (p .last .0) (p .last .1 .0) (p .last .1 .1 .0) (p .last .1 .1 .1 .0) (p .ensures)
           ∙ turn (keep (lives (a .mark))) old now (l .m) [] (keep (lives (a .mark)) (getD now (l .m) [])) (omega (arith, h .0)) (l .inv .2) refl,
     )
 
