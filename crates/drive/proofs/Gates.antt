@@ -85,16 +85,14 @@ module _ (d : rules.Drive) (m : List ℕ) (x : Fields) (space : List ℕ) where
       go true h k = eqb-true lowest 0 h
       go false h k = k
 
-  pub admitted-refused : (admitted d m x space .row ≡ 0 → ⊥)
-      → (admitted d m x space .length ≡ 0) × (admitted d m x space .drive ≡ d)
+  pub admitted-refused : (admitted d m x space .row ≡ 0 → ⊥) → admitted d m x space .drive ≡ d
   unfolding admitted granted
   admitted-refused z = go (lowest is 0) z
     where
       go : (b : Bool) → (cond b (granted d m x space) (refused lowest d m space) .row ≡ 0 → ⊥)
-          → (cond b (granted d m x space) (refused lowest d m space) .length ≡ 0)
-          × (cond b (granted d m x space) (refused lowest d m space) .drive ≡ d)
+          → cond b (granted d m x space) (refused lowest d m space) .drive ≡ d
       go true k = absurd (k refl)
-      go false k = (refl, refl)
+      go false k = refl
 
 pub drive-not-1 : (d : rules.Drive) (m : List ℕ) (x : Fields) (space : List ℕ) → admitted d m x space .row ≡ 1 → ⊥
 unfolding admitted driveRows every granted

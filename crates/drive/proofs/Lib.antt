@@ -2,6 +2,7 @@
 -- code's own contracts.
 mod Turned
 mod Memories
+mod Tables
 pub mod Frames
 pub mod Rows
 pub mod Grants

@@ -1,7 +1,7 @@
 -- The memories in their places (`memoriesIn`): one of them, row 1's test of all, one entry more in one, other entries in
 -- one; and all of them changed one after the other.
 use mathlib.Core.Path.{_≡_, refl, sym, ap, _∙_}
-use mathlib.Core.Bool.{true}
+use mathlib.Core.Bool.{true, _&&_}
 use mathlib.Core.List.{List, [], _∷_, _++_, map}
 use Prim.Native.Nat.{ℕ, zero, suc, _+_, _-_, _*_, _≤_, _<_, min, max}
 use native.Mathlib.Nat.{not-suc-le-zero, le-of-suc-le-suc}
@@ -27,9 +27,10 @@ use lib.Seq.{
 use Rattle.lemmas.specs.Lists.{every, keep, update}
 use Rattle.lemmas.specs.ListLaws.{every-nth, length-keep}
 use Rattle.rules.specs.declared.Entry.{Entry}
-use Rattle.rules.specs.Drive.{lives, mostEntries, refresh}
+use Rattle.rules.specs.Drive.{largestMedium, lives, mostEntries, quarter, refresh, sound, soundPartition}
 use Rattle.memory.specs.Memory.{entries, noEntry, Purged}
-use Rattle.partition.specs.Padded.{padded, padded-is, padded-length}
+use Rattle.state.specs.Padded.{padded, padded-is, padded-length}
+use Rattle.state.specs.Table.{viewed}
 use Rattle.memory.specs.Entries.{
   entries-length,
   entries-set,
@@ -42,7 +43,7 @@ use Rattle.memory.specs.Entries.{
   purged-counts,
 }
 use Rattle.drive.specs.declared.Drive.{Drive}
-use Rattle.drive.specs.View.{view, memoriesIn, short, Placed}
+use Rattle.drive.specs.View.{view, tablesIn, memoriesIn, short, Placed}
 use Rattle.drive.proofs.Turned.{every-set}
 
 -- the 64 places of one memory
@@ -280,7 +281,7 @@ pub refreshed-view : (d : Drive) (clock mark : ℕ) (ns s h t n : List ℕ) → 
       size = d .size;
       highwater = mark;
       keys = d .keys;
-      partitions = d .partitions;
+      tables = d .tables;
       lengths = ns;
       slots = s;
       holders = h;
@@ -289,3 +290,14 @@ pub refreshed-view : (d : Drive) (clock mark : ℕ) (ns s h t n : List ℕ) → 
     }) ≡ refresh clock (view d)
 unfolding view refresh
 refreshed-view d clock mark ns s h t n e kept = rw (kept, e) refl
+
+-- ---- row 1's test of a record, by its tables and its memories' lengths
+pub sound-view : (d : Drive) → length (d .lengths) ≡ 5 → length (d .slots) ≡ 320 → length (d .holders) ≡ 320
+    → length (d .times) ≡ 320 → length (d .counts) ≡ 320
+    → sound (view d) ≡ (leb (d .size) largestMedium
+    && every (soundPartition (quarter (d .size))) (map viewed (tablesIn 4 (d .tables))) && every short (d .lengths))
+unfolding sound view
+sound-view d five s h t n =
+    let long : length (entries (d .slots) (d .holders) (d .times) (d .counts)) ≡ length (d .slots) =
+    entries-length (d .slots) (d .holders) (d .times) (d .counts) (h ∙ sym s) (t ∙ sym s) (n ∙ sym s) in
+    rw (memories-short (d .lengths) (entries (d .slots) (d .holders) (d .times) (d .counts)) (omega arith)) refl

@@ -1,15 +1,16 @@
 -- What the code of `serve` and `grant` finds and does, in the rules' words: rows 8, 9 and the judged ones, and the parts of
--- a grant. All of one share: its partition is the frame's, its memory the frame's memory.
+-- a grant. All of one share: its table is that of the frame's partition, its memory the frame's memory.
 use mathlib.Core.Path.{_≡_, refl, sym, ap, subst, _∙_}
 use mathlib.Core.Bool.{Bool, true, false, not, cond, true≢false}
 use mathlib.Core.Option.{Option, none, some, Option·getD}
 use mathlib.Core.List.{List, [], _∷_, _++_}
-use Prim.Native.Nat.{ℕ, zero, suc, _+_, _≤_, _<_, max}
+use Prim.Native.Nat.{ℕ, zero, suc, _+_, _-_, _*_, _≤_, _<_, max}
 use native.Mathlib.Omega.{arith}
-use lib.ListN.{length, getD, replicate, getD-replicate}
+use borrow.Rule.Slice.PartMut.{midOf}
+use lib.ListN.{length, getD, take, drop, replicate, getD-replicate}
 use borrow.Author.Tests.{eq-eqb, ne-eqb, leb-true}
 use Rattle.lemmas.specs.Tests.{_is_, _isnt_, _under_}
-use Rattle.lemmas.specs.Lists.{same, missing, keep, some?}
+use Rattle.lemmas.specs.Lists.{part, same, missing, keep, some?}
 use Rattle.lemmas.specs.Rows.{Row, line, firstRow, row-here, row-next}
 use Rattle.digest.specs.Hmac.{hmac}
 use Rattle.digest.specs.declared.mac.Mac.{Mac}
@@ -28,15 +29,14 @@ use Rattle.wire.specs.declared.ParsedRequest.{ParsedRequest}
 use Rattle.wire.specs.declared.Parsed.the-variants.{Fields as Parsed·Fields}
 use Rattle.wire.specs.Parse.{requestTold, frameRow, told, parseOf}
 use Rattle.wire.specs.ParseLaws.{fields-told}
-use Rattle.keyring.specs.declared.Key.{Key}
-use Rattle.keyring.specs.View.{keyOf, keysOf}
+use Rattle.keyring.specs.Keys.{keysIn}
 use Rattle.effect.specs.declared.Site.{Site}
 use Rattle.effect.specs.Effect.{mediumPut}
 use Rattle.set_key.specs.Keys.{keysPut}
 use Rattle.sealed_reply.specs.Reply.{replyPut}
 use Rattle.judge.specs.Judge.{entryOf, judgeRows, placeFor, rules-rows, place-when}
-use Rattle.partition.specs.declared.Partition.{Partition}
-use Rattle.partition.specs.Partition.{partitionOf, partitionAfter}
+use Rattle.state.specs.Table.{heldIn, partitionIn}
+use Rattle.partition.specs.Partition.{partitionAfter}
 use Rattle.drive.specs.declared.Share.{Share}
 use Rattle.drive.specs.declared.Outcome.{Outcome}
 use Rattle.drive.specs.Share.{alone, admitted, Ready, Given}
@@ -46,41 +46,48 @@ use Rattle.drive.proofs.Rows.{room}
 use Rattle.drive.proofs.Grants.{medium-is, reply-is, keys-is, partition-is, memory-is}
 
 -- ---- a share's drive: its partition and memory are the frame's
-module _ (s : Share) (l : List Entry) (f : List ℕ) (z : frameRow f ≡ 0) where
+module _ (s : Share) (ks t : List ℕ) (l : List Entry) (f : List ℕ) (z : frameRow f ≡ 0) where
   abbrev x : Fields
   x = fields f
 
-  pub alone-home : home (alone s l .tables) x ≡ partitionOf (s .partition)
+  pub alone-home : home (alone s ks t l .tables) x ≡ partitionIn t
   unfolding alone
-  alone-home = getD-replicate 4 (x .cred .partition) (partitionOf (s .partition)) (unused 0) (in-four f z)
+  alone-home = getD-replicate 4 (x .cred .partition) (partitionIn t) (unused 0) (in-four f z)
 
-  pub alone-memory : remembered (alone s l) x ≡ l
+  pub alone-memory : remembered (alone s ks t l) x ≡ l
   unfolding alone remembered
   alone-memory = getD-replicate 5 (memory x) l [] (in-five f z)
 
-pub alone-four : (s : Share) (l : List Entry) → length (alone s l .tables .partitions) ≡ 4
+pub alone-four : (s : Share) (ks t : List ℕ) (l : List Entry) → length (alone s ks t l .tables .partitions) ≡ 4
 unfolding alone
-alone-four s l = refl
+alone-four s ks t l = refl
 
-pub alone-five : (s : Share) (l : List Entry) → length (alone s l .memories) ≡ 5
+pub alone-five : (s : Share) (ks t : List ℕ) (l : List Entry) → length (alone s ks t l .memories) ≡ 5
 unfolding alone
-alone-five s l = refl
+alone-five s ks t l = refl
 
 -- it has its new mark, and no outlived entry
-pub alone-fresh : (s : Share) (l : List Entry) → keep (lives (s .highwater)) l ≡ l → refresh 0 (alone s l) ≡ alone s l
+pub alone-fresh : (s : Share) (ks t : List ℕ) (l : List Entry) → keep (lives (s .highwater)) l ≡ l → refresh 0 (alone s ks t l) ≡ alone s ks t l
 unfolding refresh alone
-alone-fresh s l h =
+alone-fresh s ks t l h =
     let e : max (s .highwater) 0 ≡ s .highwater = omega arith in
     rw (e, h) refl
 
+-- the bytes of a key, as the code lends them
+pub secret-is : (ks : List ℕ) (j k : ℕ) → j ≡ k → midOf (32 * j) (32 * j + 32 - 32 * j) ks ≡ part ks (32 * k) 32
+unfolding part
+secret-is ks j k e =
+    let n : 32 * j + 32 - 32 * j ≡ 32 = omega arith in
+    ap (λ (i : ℕ). take i (drop (32 * j) ks)) n ∙ ap (λ (i : ℕ). take 32 (drop (32 * i) ks)) e
+
 -- ---- rows 8 and on
-module _ (s : Share) (l : List Entry) (m f space : List ℕ) (c : Credential) (q : ParsedRequest)
-    (w : Ready s l m f c q) where
+module _ (s : Share) (ks t : List ℕ) (l : List Entry) (m f space : List ℕ) (c : Credential) (q : ParsedRequest)
+    (w : Ready s ks t l m f c q) where
   abbrev y : Fields
   y = fields f
 
   abbrev keys : rules.Keys
-  keys = alone s l .tables .keys
+  keys = keysIn ks
 
   pub zero-row : frameRow f ≡ 0
   zero-row = fields-told f c q (w .parsed) .0
@@ -92,154 +99,159 @@ module _ (s : Share) (l : List Entry) (m f space : List ℕ) (c : Credential) (q
   q-is = fields-told f c q (w .parsed) .2
 
   abbrev table : List Row
-  table = driveRows (alone s l) y space
+  table = driveRows (alone s ks t l) y space
 
   -- what is asked of the memory
   abbrev seen-before : Bool
-  seen-before = some? (sameEntry (entryOf (y .cred) (y .req))) (remembered (alone s l) y)
+  seen-before = some? (sameEntry (entryOf (y .cred) (y .req))) (remembered (alone s ks t l) y)
 
   abbrev entries-held : ℕ
-  entries-held = length (remembered (alone s l) y)
+  entries-held = length (remembered (alone s ks t l) y)
 
   abbrev judged : List Row
-  judged = judgeRows (s .highwater) (home (alone s l .tables) y) seen-before entries-held (y .cred) (y .req)
-      (placeOf (quarter (s .size)) (alone s l .tables) y) (length space)
+  judged = judgeRows (s .highwater) (home (alone s ks t l .tables) y) seen-before entries-held (y .cred) (y .req)
+      (placeOf (quarter (s .size)) (alone s ks t l .tables) y) (length space)
 
-  table-is : table ≡ line 8 (row8 (alone s l .tables) y) ∷ line 9 (row9 (alone s l .tables) y) ∷ judged
+  table-is : table ≡ line 8 (row8 (alone s ks t l .tables) y) ∷ line 9 (row9 (alone s ks t l .tables) y) ∷ judged
   unfolding alone
-  table-is = rules-rows (alone s l) y space
+  table-is = rules-rows (alone s ks t l) y space
 
   -- the key that the code found
-  module _ (key : Key) (found : keyOf key ≡ keyIn (keysOf (s .keys)) (c .partition) (c .slot)) where
-    found-is : keyIn keys (y .cred .partition) (y .cred .slot) ≡ keyOf key
-    unfolding alone
-    found-is = ap (λ (k : Credential). keyIn (keysOf (s .keys)) (k .partition) (k .slot)) (sym c-is) ∙ sym found
+  module _ (key : Option (List ℕ)) (found : keyIn keys (c .partition) (c .slot) ≡ key) where
+    found-is : keyIn keys (y .cred .partition) (y .cred .slot) ≡ key
+    found-is = ap (λ (k : Credential). keyIn keys (k .partition) (k .slot)) (sym c-is) ∙ found
 
-    pub eight : key .set ≡ false → firstRow table ≡ 8
-    unfolding row8 missing
+    pub eight : key ≡ none → firstRow table ≡ 8
+    unfolding row8 missing alone
     eight h =
-        let r : row8 (alone s l .tables) y ≡ true = rw (found-is, h) refl in
-        ap firstRow table-is ∙ row-here (line 8 (row8 (alone s l .tables) y)) (line 9 (row9 (alone s l .tables) y) ∷ judged) r
+        let r : row8 (alone s ks t l .tables) y ≡ true = rw (found-is, h) refl in
+        ap firstRow table-is
+        ∙ row-here (line 8 (row8 (alone s ks t l .tables) y)) (line 9 (row9 (alone s ks t l .tables) y) ∷ judged) r
 
-    module _ (set : key .set ≡ true) where
-      pub signing-is : signing keys y ≡ key .bytes
+    module _ (secret : List ℕ) (set : key ≡ some secret) where
+      pub signing-is : signing keys y ≡ secret
       unfolding signing
       signing-is = rw (found-is, set) refl
 
-      pub credential-key : hmac (key .bytes) (y .credential) ≡ credentialKey keys y
+      pub set-is : keyIn keys (y .cred .partition) (y .cred .slot) ≡ some (signing keys y)
+      set-is = found-is ∙ set ∙ ap (λ (k : List ℕ). some k) (sym signing-is)
+
+      pub credential-key : hmac secret (y .credential) ≡ credentialKey keys y
       unfolding credentialKey
       credential-key = ap (λ (k : List ℕ). hmac k (y .credential)) (sym signing-is)
 
-      past8 : row8 (alone s l .tables) y ≡ false
-      unfolding row8 missing
+      past8 : row8 (alone s ks t l .tables) y ≡ false
+      unfolding row8 missing alone
       past8 = rw (found-is, set) refl
 
-      from9 : firstRow table ≡ firstRow (line 9 (row9 (alone s l .tables) y) ∷ judged)
+      from9 : firstRow table ≡ firstRow (line 9 (row9 (alone s ks t l .tables) y) ∷ judged)
       from9 = ap firstRow table-is
-          ∙ row-next (line 8 (row8 (alone s l .tables) y)) (line 9 (row9 (alone s l .tables) y) ∷ judged) past8
+          ∙ row-next (line 8 (row8 (alone s ks t l .tables) y)) (line 9 (row9 (alone s ks t l .tables) y) ∷ judged) past8
 
       -- the digest compared
       module _ (signed : Bool)
           (compared : signed ≡ same (y .digest) (hmac (credentialKey keys y) (covered (q .level) (y .credential) (y .request) (y .payload))))
         where
-          row9-is : row9 (alone s l .tables) y ≡ not signed
-          unfolding row9 digestOf requestTold
+          row9-is : row9 (alone s ks t l .tables) y ≡ not signed
+          unfolding row9 digestOf requestTold alone
           row9-is = ap not (ap (λ (l : ℕ). same (y .digest) (hmac (credentialKey keys y)
               (covered l (y .credential) (y .request) (y .payload)))) (sym (ap Request.level q-is)) ∙ sym compared)
 
           pub nine : signed ≡ false → firstRow table ≡ 9
-          nine h = from9 ∙ row-here (line 9 (row9 (alone s l .tables) y)) judged (row9-is ∙ ap not h)
+          nine h = from9 ∙ row-here (line 9 (row9 (alone s ks t l .tables) y)) judged (row9-is ∙ ap not h)
 
-          over-share : firstRow (judgeRows (s .highwater) (home (alone s l .tables) y) seen-before entries-held (y .cred)
-              (y .req) (cond (y .req .operation isnt 5) none (placeOf (quarter (s .size)) (alone s l .tables) y)) (length space))
-              ≡ firstRow (judgeRows (s .highwater) (partitionOf (s .partition)) (s .replayed) (s .held) c
-              (requestTold q) (placeFor (quarter (s .size)) (s .partition .objects) (requestTold q)) (length space))
-          unfolding placeOf partitionOf
+          over-share : firstRow (judgeRows (s .highwater) (home (alone s ks t l .tables) y) seen-before entries-held (y .cred)
+              (y .req) (cond (y .req .operation isnt 5) none (placeOf (quarter (s .size)) (alone s ks t l .tables) y)) (length space))
+              ≡ firstRow (judgeRows (s .highwater) (partitionIn t) (s .replayed) (s .held) c
+              (requestTold q) (placeFor (quarter (s .size)) (heldIn t) (requestTold q)) (length space))
+          unfolding placeOf partitionIn
           over-share =
-              rw (alone-home s l f zero-row, alone-memory s l f zero-row, w .replayed, w .held, c-is, q-is) refl
+              rw (alone-home s ks t l f zero-row, alone-memory s ks t l f zero-row, w .replayed, w .held, c-is, q-is) refl
 
           pub from10 : signed ≡ true
-              → firstRow table ≡ firstRow (judgeRows (s .highwater) (partitionOf (s .partition)) (s .replayed) (s .held) c
-              (requestTold q) (placeFor (quarter (s .size)) (s .partition .objects) (requestTold q)) (length space))
+              → firstRow table ≡ firstRow (judgeRows (s .highwater) (partitionIn t) (s .replayed) (s .held) c
+              (requestTold q) (placeFor (quarter (s .size)) (heldIn t) (requestTold q)) (length space))
           from10 h =
-              from9 ∙ row-next (line 9 (row9 (alone s l .tables) y)) judged (row9-is ∙ ap not h)
-              ∙ ap firstRow (sym (place-when (s .highwater) (home (alone s l .tables) y) seen-before entries-held (y .cred)
-              (y .req) (placeOf (quarter (s .size)) (alone s l .tables) y) (length space)))
+              from9 ∙ row-next (line 9 (row9 (alone s ks t l .tables) y)) judged (row9-is ∙ ap not h)
+              ∙ ap firstRow (sym (place-when (s .highwater) (home (alone s ks t l .tables) y) seen-before entries-held (y .cred)
+              (y .req) (placeOf (quarter (s .size)) (alone s ks t l .tables) y) (length space)))
               ∙ over-share
 
   -- ---- a refusal
-  pub refusal-given : (r : Outcome) (n : ℕ) → firstRow table ≡ n → (n ≡ 0 → ⊥) → r .row ≡ n → r .length ≡ 0
-      → r .keys ≡ s .keys → r .partition ≡ s .partition → Given (admitted (alone s l) m y space) y r m space
-  unfolding admitted alone
-  refusal-given r n t z e none-long k p = subst (λ (a : Answer). Given a y r m space) (sym answer) (record {
-    row = e;
-    length = none-long;
+  pub refusal-given : (r : Outcome) (n : ℕ) → firstRow table ≡ n → (n ≡ 0 → ⊥)
+      → r ≡ record { row = n; length = 0; next = 0; place = 0 }
+      → Given (admitted (alone s ks t l) m y space) ks t f q r m space
+  unfolding admitted
+  refusal-given r n first z e = subst (λ (a : Answer). Given a ks t f q r m space) (sym answer) (record {
+    row = ap Outcome.row e;
+    length = ap Outcome.length e;
     medium = refl;
     space = refl;
-    keys = ap keysOf k;
-    partition = ap partitionOf p ∙ sym (alone-home s l f zero-row);
-    few = subst (λ (h : Partition). h .objects .count ≤ mostObjects) (sym p) (w .few);
+    set = λ k. absurd (z (sym (ap Outcome.row e) ∙ k));
+    keys = λ k. absurd (z (sym (ap Outcome.row e) ∙ k));
+    partition = λ k. absurd (z (sym (ap Outcome.row e) ∙ k));
   })
     where
-      answer : admitted (alone s l) m y space ≡ refused n (alone s l) m space
-      answer = rw (t, ne-eqb n 0 z) refl
+      answer : admitted (alone s ks t l) m y space ≡ refused n (alone s ks t l) m space
+      answer = rw (first, ne-eqb n 0 z) refl
 
   -- ---- no row applies: the grant
   pub granted-given : (r : Outcome) (after replied : List ℕ) → firstRow table ≡ 0
-      → Given (granted (alone s l) m y space) y r after replied → Given (admitted (alone s l) m y space) y r after replied
+      → Given (granted (alone s ks t l) m y space) ks t f q r after replied
+      → Given (admitted (alone s ks t l) m y space) ks t f q r after replied
   unfolding admitted
-  granted-given r after replied t g = subst (λ (a : Answer). Given a y r after replied) (sym answer) g
+  granted-given r after replied first g = subst (λ (a : Answer). Given a ks t f q r after replied) (sym answer) g
     where
-      answer : admitted (alone s l) m y space ≡ granted (alone s l) m y space
-      answer = rw t refl
+      answer : admitted (alone s ks t l) m y space ≡ granted (alone s ks t l) m y space
+      answer = rw first refl
 
-  ready-row : row1 (alone s l) m ≡ false
+  ready-row : row1 (alone s ks t l) m ≡ false
   unfolding row1 alone
   ready-row = rw (w .sound, eq-eqb (length m) (s .size) (w .size)) refl
 
-  pub room-of : firstRow table ≡ 0 → Room (alone s l) m y space
-  room-of g = room (alone s l) m f space (alone-fresh s l (w .fresh)) ready-row zero-row g
+  pub room-of : firstRow table ≡ 0 → Room (alone s ks t l) m y space
+  room-of g = room (alone s ks t l) m f space (alone-fresh s ks t l (w .fresh)) ready-row zero-row g
 
   -- the place that was looked for
-  pub placed-is : placeFor (quarter (s .size)) (s .partition .objects) (requestTold q)
-      ≡ cond (y .req .operation isnt 5) none (placeOf (quarter (s .size)) (alone s l .tables) y)
-  unfolding placeOf partitionOf
-  placed-is = rw (alone-home s l f zero-row, q-is) refl
+  pub placed-is : placeFor (quarter (s .size)) (heldIn t) (requestTold q)
+      ≡ cond (y .req .operation isnt 5) none (placeOf (quarter (s .size)) (alone s ks t l .tables) y)
+  unfolding placeOf partitionIn
+  placed-is = rw (alone-home s ks t l f zero-row, q-is) refl
 
   pub small-size : s .size ≤ largestMedium
   unfolding alone
-  small-size = leb-true (s .size) largestMedium (small-of (alone s l) (w .sound))
+  small-size = leb-true (s .size) largestMedium (small-of (alone s ks t l) (w .sound))
 
   -- what a grant enters
   entry-is : entryOf c (requestTold q) ≡ entry y
   unfolding entryOf entry
   entry-is = rw (c-is, q-is) refl
 
-  drive-is : firstRow table ≡ 0 → driveAfter (operationOf y) y (alone s l) ≡ admitted (alone s l) m y space .drive
+  drive-is : firstRow table ≡ 0 → driveAfter (operationOf y) y (alone s ks t l) ≡ admitted (alone s ks t l) m y space .drive
   unfolding admitted granted
-  drive-is t = rw t refl
+  drive-is first = rw first refl
 
   pub memory-entered : firstRow table ≡ 0
-      → l ++ (entryOf c (requestTold q) ∷ []) ≡ remembered (admitted (alone s l) m y space .drive) y
-  memory-entered t =
-      ap (λ (h : List Entry). h ++ (entryOf c (requestTold q) ∷ [])) (sym (alone-memory s l f zero-row))
-      ∙ memory-is (alone s l) m f space q q-is (room-of t)
-      (cond (y .req .operation isnt 5) none (placeOf (quarter (alone s l .size)) (alone s l .tables) y)) refl (alone-four s l)
-      (alone-five s l) (in-five f zero-row) (entryOf c (requestTold q)) entry-is
-      ∙ ap (λ (b : rules.Drive). remembered b y) (drive-is t)
+      → l ++ (entryOf c (requestTold q) ∷ []) ≡ remembered (admitted (alone s ks t l) m y space .drive) y
+  memory-entered first =
+      ap (λ (h : List Entry). h ++ (entryOf c (requestTold q) ∷ [])) (sym (alone-memory s ks t l f zero-row))
+      ∙ memory-is (alone s ks t l) m f space q q-is (room-of first)
+      (cond (y .req .operation isnt 5) none (placeOf (quarter (alone s ks t l .size)) (alone s ks t l .tables) y)) refl (alone-four s ks t l)
+      (alone-five s ks t l) (in-five f zero-row) (entryOf c (requestTold q)) entry-is
+      ∙ ap (λ (b : rules.Drive). remembered b y) (drive-is first)
 
   -- there is room for it
   pub memory-room : firstRow table ≡ 0 → length l < mostEntries
-  memory-room t = subst (λ (h : List Entry). length h < mostEntries) (alone-memory s l f zero-row) (room-of t .entries)
+  memory-room first = subst (λ (h : List Entry). length h < mostEntries) (alone-memory s ks t l f zero-row) (room-of first .entries)
 
 -- ---- the parts of a grant
-module _ (s : Share) (l : List Entry) (seen : Mac) (k m f space : List ℕ) (c : Credential) (q : ParsedRequest)
-    (start : Option ℕ) (g : Granting s l seen k m f space c q start) where
+module _ (s : Share) (ks t : List ℕ) (l : List Entry) (seen : Mac) (m f space : List ℕ) (c : Credential) (q : ParsedRequest)
+    (start : Option ℕ) (g : Granting s ks t l seen m f space c q start) where
   abbrev v : Fields
   v = fields f
 
   abbrev d : rules.Drive
-  d = alone s l
+  d = alone s ks t l
 
   zero-g : frameRow f ≡ 0
   zero-g = fields-told f c q (g .parsed) .0
@@ -251,11 +263,11 @@ module _ (s : Share) (l : List Entry) (seen : Mac) (k m f space : List ℕ) (c :
   q-g = fields-told f c q (g .parsed) .2
 
   abbrev here : Site
-  here = siteOf (s .size) (partitionOf (s .partition)) c start
+  here = siteOf (s .size) (partitionIn t) c start
 
   site-g : here ≡ siteOf (d .size) (home (d .tables) v) (v .cred) start
   unfolding alone
-  site-g = rw (alone-home s l f zero-g, c-g) refl
+  site-g = rw (alone-home s ks t l f zero-g, c-g) refl
 
   placed-g : start ≡ cond (v .req .operation isnt 5) none (placeOf (quarter (d .size)) (d .tables) v)
   unfolding alone
@@ -266,10 +278,10 @@ module _ (s : Share) (l : List Entry) (seen : Mac) (k m f space : List ℕ) (c :
   medium-g = ap (λ (h : Site). mediumPut (q .operation) h (v .payload) m) site-g
       ∙ medium-is d m f space q q-g (g .room) start placed-g
 
-  pub space-g : replyPut (credentialKey (d .tables .keys) v) (v .credential ++ v .request) (requestTold q) (q .operation)
+  pub space-g : replyPut (credentialKey (keysIn ks) v) (v .credential ++ v .request) (requestTold q) (q .operation)
       here m space ≡ granted d m v space .space
-  unfolding granted
-  space-g = ap (λ (h : Site). replyPut (credentialKey (d .tables .keys) v) (v .credential ++ v .request) (requestTold q)
+  unfolding granted alone
+  space-g = ap (λ (h : Site). replyPut (credentialKey (keysIn ks) v) (v .credential ++ v .request) (requestTold q)
       (q .operation) h m space) site-g
       ∙ reply-is d m f space q q-g (g .room) start placed-g
 
@@ -277,17 +289,17 @@ module _ (s : Share) (l : List Entry) (seen : Mac) (k m f space : List ℕ) (c :
   unfolding granted
   length-g = ap replyLength q-g
 
-  pub keys-g : keysPut (q .operation) (c .slot) (c .partition) k (v .request ++ v .payload) (keysOf (s .keys))
-      ≡ granted d m v space .drive .tables .keys
+  pub keys-g : keysPut (q .operation) (v .cred .slot) (v .cred .partition) (signing (keysIn ks) v)
+      (v .request ++ v .payload) (keysIn ks) ≡ granted d m v space .drive .tables .keys
   unfolding granted alone
-  keys-g = rw (c-g, g .key) (keys-is d m f space q q-g (g .room) start placed-g)
+  keys-g = keys-is d m f space q q-g (g .room) start placed-g
 
-  pub partition-g : partitionAfter (q .operation) (c .object) (here .next) (here .place) (partitionOf (s .partition))
+  pub partition-g : partitionAfter (q .operation) (v .cred .object) (here .next) (here .place) (partitionIn t)
       ≡ home (granted d m v space .drive .tables) v
   unfolding granted
   partition-g =
-      ap (λ (h : Site). partitionAfter (q .operation) (c .object) (h .next) (h .place) (partitionOf (s .partition))) site-g
-      ∙ rw (c-g, ← alone-home s l f zero-g) (partition-is d m f space q q-g (g .room) start placed-g (alone-four s l) (alone-five s l) (in-five f zero-g))
+      ap (λ (h : Site). partitionAfter (q .operation) (v .cred .object) (h .next) (h .place) (partitionIn t)) site-g
+      ∙ rw (← alone-home s ks t l f zero-g) (partition-is d m f space q q-g (g .room) start placed-g (alone-four s ks t l) (alone-five s ks t l) (in-five f zero-g))
 
   pub small-g : s .size ≤ largestMedium
   unfolding alone

@@ -2,10 +2,11 @@
 use mathlib.Core.Path.{_≡_, refl, sym, ap, subst, _∙_}
 use mathlib.Core.Bool.{Bool, true, false, _&&_, _||_, not, cond}
 use mathlib.Core.List.{List, [], _∷_, _++_, map}
-use Prim.Native.Nat.{ℕ, _≤_, _<_}
+use Prim.Native.Nat.{ℕ, _*_, _≤_, _<_}
 use native.Mathlib.Omega.{arith}
 use lib.Dec.{leb}
-use lib.ListN.{length, getD, set}
+use lib.ListN.{length, getD, drop, set, length-take, length-drop}
+use borrow.Rule.Slice.PartMut.{midOf, putMid}
 use borrow.Author.Tests.{leb-true, eq-eqb}
 use Rattle.lemmas.specs.Tests.{_is_, _isnt_, _under_, both}
 use Rattle.lemmas.specs.Lists.{every, keep, some?, update}
@@ -27,7 +28,7 @@ use Rattle.rules.specs.Drive.{
   soundPartition,
   unused,
 }
-use Rattle.rules.specs.Operations.{home}
+use Rattle.rules.specs.Operations.{home, signing}
 use Rattle.rules.specs.Rows.{row1, remembered}
 use Rattle.rules.specs.Gate as rules·gate
 use Rattle.rules.specs.Gate.{gate}
@@ -39,20 +40,26 @@ use Rattle.wire.specs.declared.Parsed.the-variants.{Fields as Parsed·Fields}
 use Rattle.wire.specs.Parse.{frameRow, told, parseOf, requestTold}
 use Rattle.judge.specs.Judge.{entryOf}
 use Rattle.wire.specs.ParseLaws.{fields-told}
-use Rattle.keyring.specs.View.{keysOf}
+use Rattle.keyring.specs.Keys.{keysIn}
 use Rattle.memory.specs.Memory.{entries}
-use Rattle.partition.specs.declared.Partition.{Partition}
-use Rattle.partition.specs.Padded.{padded}
-use Rattle.partition.specs.Partition.{partitionOf, viewed, viewed-is}
+use Rattle.state.specs.Padded.{padded}
+use Rattle.state.specs.Table.{tableSize, partitionIn, viewed}
+use Rattle.state.specs.Places.{viewed-is}
+use Rattle.state.specs.Changes.{Became}
+use Rattle.partition.specs.Partition.{partitionAfter, appliedIn}
+use Rattle.partition.specs.Applied.{applied-is}
+use Rattle.set_key.specs.Keys.{keysAfter}
+use Rattle.set_key.specs.Laws.{keys-after}
+use Rattle.keyring.specs.Laws.{slot-key}
 use Rattle.drive.specs.declared.Drive.{Drive}
 use Rattle.drive.specs.declared.Answer.{Answer}
 use Rattle.drive.specs.declared.Share.{Share}
 use Rattle.drive.specs.declared.Outcome.{Outcome}
-use Rattle.drive.specs.View.{view, memoriesIn, few, short, Placed, Counted}
+use Rattle.drive.specs.View.{view, tablesIn, memoriesIn, few, short, Placed, Counted}
 use Rattle.drive.specs.Share.{alone, admitted, Ready, Given}
 use Rattle.drive.specs.Met.{callOf, GateMet}
 use Rattle.drive.proofs.Frames.{in-four, in-five}
-use Rattle.drive.proofs.Turned.{noPartition}
+use Rattle.drive.proofs.Tables.{tables-at, tables-put}
 use Rattle.drive.proofs.Memories.{held-long}
 use Rattle.drive.proofs.Serving.{alone-home, alone-memory, memory-entered, memory-room}
 use Rattle.drive.proofs.Whole.{putBack, backIn, admitted-back, update-to}
@@ -82,7 +89,7 @@ keep-again t (e ∷ l) = go (t e) refl (keep-again t l)
 module _ (d₀ d : Drive) (clock : ℕ) (v : view d ≡ refresh clock (view d₀)) (counted : Counted d)
     (whole : sound (view d₀) ≡ true) (m f : List ℕ) (size : length m ≡ d₀ .size) (c : Credential) (q : ParsedRequest)
     (parsed : told (Parsed·Fields c q) ≡ parseOf f) (i k : ℕ) (i-is : i ≡ fields f .cred .partition)
-    (k-is : k ≡ memory (fields f)) where
+    (k-is : k ≡ memory (fields f)) (width : ℕ) (width-is : width ≡ 67) where
   abbrev x : Fields
   x = fields f
 
@@ -92,8 +99,24 @@ module _ (d₀ d : Drive) (clock : ℕ) (v : view d ≡ refresh clock (view d₀
   k-low : k < 5
   k-low = let h = in-five f zero in omega (arith, k-is)
 
-  abbrev part : Partition
-  part = getD (d .partitions) i noPartition
+  i-low : i < 4
+  i-low = let h = in-four f zero in omega (arith, i-is)
+
+  -- the partition's table
+  abbrev part : List ℕ
+  part = midOf (67 * i) width (d .tables)
+
+  part-is : getD (tablesIn 4 (d .tables)) i [] ≡ part
+  part-is = tables-at 4 i (d .tables) i-low ∙ ap (λ (n : ℕ). midOf (67 * i) n (d .tables)) (sym width-is)
+
+  pub long-part : length part ≡ tableSize
+  long-part =
+      let a = length-take width (drop (67 * i) (d .tables)) in
+      let g = width-is in
+      let b = length-drop (67 * i) (d .tables) in
+      let c = counted .tables in
+      let e = i-low in
+      omega arith
 
   abbrev all-entries : List Entry
   all-entries = entries (d .slots) (d .holders) (d .times) (d .counts)
@@ -105,9 +128,9 @@ module _ (d₀ d : Drive) (clock : ℕ) (v : view d ≡ refresh clock (view d₀
   abbrev mem : List Entry
   mem = getD all-memories k []
 
-  few-part : part .objects .count ≤ mostObjects
-  few-part = leb-true (part .objects .count) mostObjects
-      (every-nth few (d .partitions) i noPartition refl (counted .objects))
+  few-part : getD part 2 0 ≤ mostObjects
+  few-part = leb-true (getD part 2 0) mostObjects
+      (ap few (sym part-is) ∙ every-nth few (tablesIn 4 (d .tables)) i [] refl (counted .objects))
 
   abbrev placed : Placed (d .lengths) (d .slots) (d .holders) (d .times) (d .counts)
   placed = counted .memories
@@ -116,10 +139,10 @@ module _ (d₀ d : Drive) (clock : ℕ) (v : view d ≡ refresh clock (view d₀
   mem-long = held-long (d .lengths) (d .slots) (d .holders) (d .times) (d .counts) placed k k-low
 
   -- ---- the share is the frame's own part of the drive
-  home-is : home (view d .tables) x ≡ partitionOf part
+  home-is : home (view d .tables) x ≡ partitionIn part
   unfolding view viewed padded
-  home-is = ap (λ (j : ℕ). getD (map viewed (d .partitions)) j (unused 0)) (sym i-is)
-      ∙ nth-map viewed (d .partitions) i noPartition ∙ viewed-is part few-part
+  home-is = ap (λ (j : ℕ). getD (map viewed (tablesIn 4 (d .tables))) j (unused 0)) (sym i-is)
+      ∙ nth-map viewed (tablesIn 4 (d .tables)) i [] ∙ ap viewed part-is ∙ viewed-is part long-part few-part
 
   held-is : remembered (view d) x ≡ mem
   unfolding view remembered
@@ -128,7 +151,7 @@ module _ (d₀ d : Drive) (clock : ℕ) (v : view d ≡ refresh clock (view d₀
   sound-d : sound (view d) ≡ true
   sound-d = ap sound v ∙ refresh-sound clock (view d₀) whole
 
-  sound-part : soundPartition (quarter (d .size)) (partitionOf part) ≡ true
+  sound-part : soundPartition (quarter (d .size)) (partitionIn part) ≡ true
   unfolding view
   sound-part = ap (soundPartition (quarter (d .size))) (sym home-is)
       ∙ at-sound (quarter (view d .size)) (view d .tables) (x .cred .partition) (tables-of (view d) sound-d)
@@ -158,17 +181,15 @@ module _ (d₀ d : Drive) (clock : ℕ) (v : view d ≡ refresh clock (view d₀
     share = record {
       size = d .size;
       highwater = d .highwater;
-      keys = d .keys;
-      partition = part;
       replayed = replayed;
       held = getD (d .lengths) k 0;
     }
 
-    sound-share : sound (alone share mem) ≡ true
+    sound-share : sound (alone share (d .keys) part mem) ≡ true
     unfolding sound alone every view
     sound-share = rw (small-of (view d) sound-d, sound-part, sound-mem) refl
 
-    pub ready : Ready share mem m f c q
+    pub ready : Ready share (d .keys) part mem m f c q
     unfolding view refresh
     ready = record {
       parsed = parsed;
@@ -177,34 +198,35 @@ module _ (d₀ d : Drive) (clock : ℕ) (v : view d ≡ refresh clock (view d₀
       fresh = fresh-share;
       replayed = found;
       held = mem-long;
-      few = few-part;
+      keys = counted .keys;
+      table = long-part;
     }
 
     -- ---- an outcome, and what the gate makes of it
     module _ (space : List ℕ) (out : Outcome) (after replied : List ℕ)
-        (given : Given (admitted (alone share mem) m x space) x out after replied) where
+        (given : Given (admitted (alone share (d .keys) part mem) m x space) (d .keys) part f q out after replied) where
       abbrev a : rules·gate.Answer
-      a = admitted (alone share mem) m x space
+      a = admitted (alone share (d .keys) part mem) m x space
 
       whole-is : admitted (view d) m x space ≡ backIn (view d) x a
       unfolding alone view
-      whole-is = admitted-back (view d) (alone share mem) x refl refl refl
-          (alone-home share mem f zero ∙ sym home-is) (alone-memory share mem f zero ∙ sym held-is) refl (in-four f zero) refl
+      whole-is = admitted-back (view d) (alone share (d .keys) part mem) x refl refl refl
+          (alone-home share (d .keys) part mem f zero ∙ sym home-is) (alone-memory share (d .keys) part mem f zero ∙ sym held-is) refl (in-four f zero) refl
           (in-five f zero) m space
 
       gate-is : gate (view d₀) m (callOf f clock space) ≡ admitted (view d) m x space
       gate-is = gate-admitted (view d₀) m f clock space row1-no zero ∙ ap (λ (e : rules.Drive). admitted e m x space) (sym v)
 
       not-1 : out .row ≡ 1 → ⊥
-      not-1 k = drive-not-1 (alone share mem) m x space (sym (given .row) ∙ k)
+      not-1 k = drive-not-1 (alone share (d .keys) part mem) m x space (sym (given .row) ∙ k)
 
       -- a refusal leaves the drive
-      pub met-refused : (out .row ≡ 0 → ⊥) → (r : Answer) → r .row ≡ out .row → r .length ≡ 0 → r .drive ≡ d
+      pub met-refused : (out .row ≡ 0 → ⊥) → (r : Answer) → r .row ≡ out .row → r .length ≡ out .length → r .drive ≡ d
           → GateMet d₀ m (callOf f clock space) r after replied
-      met-refused z r row none e =
+      met-refused z r row length e =
           meets d₀ m (callOf f clock space) r after replied (admitted (view d) m x space) gate-is
           (row ∙ given .row ∙ sym (ap (λ (b : rules·gate.Answer). b .row) whole-is))
-          (none ∙ sym (admitted-refused (view d) m x space zero-no .0)) (ap view e ∙ sym (admitted-refused (view d) m x space zero-no .1))
+          (length ∙ given .length ∙ sym (ap (λ (b : rules·gate.Answer). b .length) whole-is)) (ap view e ∙ sym (admitted-refused (view d) m x space zero-no))
           (λ k. absurd (not-1 (sym row ∙ k)))
           (given .medium ∙ sym (ap (λ (b : rules·gate.Answer). b .medium) whole-is))
           (given .space ∙ sym (ap (λ (b : rules·gate.Answer). b .space) whole-is))
@@ -214,23 +236,25 @@ module _ (d₀ d : Drive) (clock : ℕ) (v : view d ≡ refresh clock (view d₀
 
       -- a grant is put back, and its nonce entered
       module _ (grant : out .row ≡ 0) where
-        no-row : admitted (alone share mem) m x space .row ≡ 0
+        no-row : admitted (alone share (d .keys) part mem) m x space .row ≡ 0
         no-row = sym (given .row) ∙ grant
 
         -- there is room for it
         pub has-room : getD (d .lengths) k 0 < mostEntries
         has-room =
-            let room = memory-room share mem m f space c q ready (admitted-zero (alone share mem) m x space no-row) in
+            let room = memory-room share (d .keys) part mem m f space c q ready (admitted-zero (alone share (d .keys) part mem) m x space no-row) in
             omega (arith, mem-long)
 
-        module _ (nonce : Entry) (is-nonce : nonce ≡ entryOf c (requestTold q)) (ns s h t n : List ℕ)
+        module _ (ks u : List ℕ) (keyed : ks ≡ keysAfter (q .operation) (c .slot) (c .partition) (x .request ++ x .payload) (d .keys))
+            (became : Became part u (appliedIn (q .operation) (c .object) (out .next) (out .place) part))
+            (nonce : Entry) (is-nonce : nonce ≡ entryOf c (requestTold q)) (ns s h t n : List ℕ)
             (entered : memoriesIn ns (entries s h t n) ≡ update k (λ (old : List Entry). old ++ (nonce ∷ [])) all-memories) where
           abbrev back : Drive
           back = record {
             size = d .size;
             highwater = d .highwater;
-            keys = out .keys;
-            partitions = set (d .partitions) i (out .partition);
+            keys = ks;
+            tables = putMid (67 * i) width (d .tables) u;
             lengths = ns;
             slots = s;
             holders = h;
@@ -238,9 +262,40 @@ module _ (d₀ d : Drive) (clock : ℕ) (v : view d ≡ refresh clock (view d₀
             counts = n;
           }
 
+          c-is : c ≡ x .cred
+          c-is = fields-told f c q parsed .1
+
+          -- the keys are the answer's
+          keys-in : keysIn ks ≡ a .drive .tables .keys
+          keys-in = ap keysIn keyed
+              ∙ ap (λ (e : Credential). keysIn (keysAfter (q .operation) (e .slot) (e .partition) (x .request ++ x .payload) (d .keys))) c-is
+              ∙ keys-after (q .operation) (x .cred .slot) (x .cred .partition) (signing (keysIn (d .keys)) x)
+              (x .request ++ x .payload) (d .keys) (counted .keys)
+              (sym (slot-key (d .keys) (counted .keys) (x .cred .partition) (x .cred .slot)) ∙ given .set grant)
+              ∙ given .keys grant
+
+          -- and so is the partition
+          abbrev now-part : rules.Partition Object
+          now-part = partitionAfter (q .operation) (c .object) (out .next) (out .place) (partitionIn part)
+
+          changed : (partitionIn u ≡ now-part) × (getD u 2 0 ≤ mostObjects) × (length u ≡ 67)
+          changed = applied-is part u (q .operation) (c .object) (out .next) (out .place) long-part few-part became
+
+          partition-in : viewed u ≡ home (a .drive .tables) x
+          partition-in = viewed-is u (changed .2) (changed .1) ∙ changed .0
+              ∙ ap (λ (e : Credential). partitionAfter (q .operation) (e .object) (out .next) (out .place) (partitionIn part)) c-is
+              ∙ given .partition grant
+
+          partitions-in : map viewed (tablesIn 4 (putMid (67 * i) width (d .tables) u))
+              ≡ update i (λ (old : rules.Partition Object). home (a .drive .tables) x) (map viewed (tablesIn 4 (d .tables)))
+          partitions-in =
+              ap (λ (n : ℕ). map viewed (tablesIn 4 (putMid (67 * i) n (d .tables) u))) width-is
+              ∙ ap (map viewed) (tables-put 4 i (d .tables) u i-low (counted .tables) (changed .2))
+              ∙ set-update viewed (tablesIn 4 (d .tables)) i u (home (a .drive .tables) x) partition-in
+
           held-in : mem ++ (nonce ∷ []) ≡ remembered (a .drive) x
           held-in = ap (λ (e : Entry). mem ++ (e ∷ [])) is-nonce
-              ∙ memory-entered share mem m f space c q ready (admitted-zero (alone share mem) m x space no-row)
+              ∙ memory-entered share (d .keys) part mem m f space c q ready (admitted-zero (alone share (d .keys) part mem) m x space no-row)
 
           memories-in : memoriesIn ns (entries s h t n)
               ≡ update k (λ (old : List Entry). remembered (a .drive) x) all-memories
@@ -249,18 +304,11 @@ module _ (d₀ d : Drive) (clock : ℕ) (v : view d ≡ refresh clock (view d₀
 
           back-is : view back ≡ putBack (view d) x (a .drive)
           unfolding view
-          back-is = rw (
-            set-update viewed (d .partitions) i (out .partition) (home (a .drive .tables) x)
-                (viewed-is (out .partition) (given .few) ∙ given .partition),
-            memories-in,
-            given .keys,
-            i-is,
-            k-is,
-          ) refl
+          back-is = rw (partitions-in, memories-in, keys-in, i-is, k-is) refl
 
-          pub met-granted : (r : Answer) → r ≡ record { row = 0; length = out .length; drive = back }
+          pub met-granted : (r : Answer) → r ≡ record { row = out .row; length = out .length; drive = back }
               → GateMet d₀ m (callOf f clock space) r after replied
           met-granted r e = subst (λ (b : Answer). GateMet d₀ m (callOf f clock space) b after replied) (sym e)
-              (meets d₀ m (callOf f clock space) (record { row = 0; length = out .length; drive = back }) after replied
-              (backIn (view d) x a) (gate-is ∙ whole-is) (sym grant ∙ given .row) (given .length) back-is
-              (λ k. absurd (not-1 (grant ∙ k))) (given .medium) (given .space))
+              (meets d₀ m (callOf f clock space) (record { row = out .row; length = out .length; drive = back }) after replied
+              (backIn (view d) x a) (gate-is ∙ whole-is) (given .row) (given .length) back-is (λ k. absurd (not-1 k))
+              (given .medium) (given .space))

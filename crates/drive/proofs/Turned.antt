@@ -1,4 +1,4 @@
--- A loop that changes the elements of a list one after the other (`turned`); and what stands past an array's end.
+-- A loop that changes the elements of a list one after the other (`turned`).
 use mathlib.Core.Path.{_≡_, refl, sym, ap, _∙_}
 use mathlib.Core.Bool.{Bool, true, _&&_}
 use mathlib.Core.List.{List, [], _∷_, map}
@@ -9,11 +9,6 @@ use native.Mathlib.Omega.{arith}
 use lib.ListN.{length, getD, set}
 use Rattle.lemmas.specs.Tests.{and-l, and-r, both}
 use Rattle.lemmas.specs.Lists.{every, update}
-use Rattle.partition.specs.declared.Partition.{Partition}
-
--- what stands past the end of an array
-abbrev pub noPartition : Partition
-noPartition = record { version = 0; last = 0; objects = record { items = []; count = 0 } }
 
 module _ {A : Type 0} where
   -- f applied to the first i elements

@@ -1,7 +1,7 @@
 -- A grant's parts: where its operation works, and what is known when it is made. x: the frame's fields.
 use mathlib.Core.Path.{_≡_}
 use mathlib.Core.Bool.{true, cond}
-use mathlib.Core.Option.{Option, none, Option·getD}
+use mathlib.Core.Option.{Option, none, some, Option·getD}
 use mathlib.Core.List.{List, _++_}
 use Prim.Native.Nat.{ℕ, _*_, _+_, _<_, _≤_}
 use lib.ListN.{length}
@@ -22,6 +22,7 @@ use Rattle.rules.specs.Operations.{
   startOf,
   placeOf,
   noObject,
+  keyIn,
   signing,
   credentialKey,
   replyLength,
@@ -33,6 +34,8 @@ use Rattle.wire.specs.Parse.{told, parseOf}
 use Rattle.effect.specs.declared.Site.{Site}
 use Rattle.effect.specs.Effect.{nextOf}
 use Rattle.judge.specs.Judge.{versionOf}
+use Rattle.keyring.specs.Keys.{keysIn}
+use Rattle.state.specs.Table.{tableSize}
 use Rattle.drive.specs.declared.Share.{Share}
 use Rattle.drive.specs.Share.{alone}
 
@@ -69,19 +72,19 @@ pub record Room (d : rules.Drive) (m : List ℕ) (x : Fields) (space : List ℕ)
 
 -- a grant's beginning: the parsed frame, room for everything, the keyed hash that took credential and request, the key
 -- in the slot, the place of a new extent
-pub record Granting (s : Share) (l : List Entry) (seen : Mac) (k m f space : List ℕ) (c : Credential)
+pub record Granting (s : Share) (ks t : List ℕ) (l : List Entry) (seen : Mac) (m f space : List ℕ) (c : Credential)
     (q : ParsedRequest) (start : Option ℕ) : Type 0 where
   pub parsed : told (Parsed·Fields c q) ≡ parseOf f
   pub long : length f ≡ 96 + fields f .req .n
-  pub room : Room (alone s l) m (fields f) space
-  pub keyed : Keyed seen (credentialKey (alone s l .tables .keys) (fields f)) (fields f .credential ++ fields f .request)
-  pub key : k ≡ signing (alone s l .tables .keys) (fields f)
+  pub room : Room (alone s ks t l) m (fields f) space
+  pub keyed : Keyed seen (credentialKey (keysIn ks) (fields f)) (fields f .credential ++ fields f .request)
+  pub set : keyIn (keysIn ks) (fields f .cred .partition) (fields f .cred .slot) ≡ some (signing (keysIn ks) (fields f))
   pub place : start
-      ≡ cond (fields f .req .operation isnt 5) none (placeOf (quarter (s .size)) (alone s l .tables) (fields f))
-  pub few : s .partition .objects .count ≤ mostObjects
+      ≡ cond (fields f .req .operation isnt 5) none (placeOf (quarter (s .size)) (alone s ks t l .tables) (fields f))
+  pub table : length t ≡ tableSize
 
 -- the same, of some memory
-pub record Granted (s : Share) (seen : Mac) (k m f space : List ℕ) (c : Credential) (q : ParsedRequest)
+pub record Granted (s : Share) (ks t : List ℕ) (seen : Mac) (m f space : List ℕ) (c : Credential) (q : ParsedRequest)
     (start : Option ℕ) : Type 0 where
   pub memory : List Entry
-  pub granting : Granting s memory seen k m f space c q start
+  pub granting : Granting s ks t memory seen m f space c q start

@@ -2,19 +2,23 @@
 use mathlib.Core.Path.{_≡_}
 use mathlib.Core.Bool.{Bool, true}
 use mathlib.Core.List.{List, [], _∷_, map}
-use Prim.Native.Nat.{ℕ}
-use lib.ListN.{length, take, drop}
+use Prim.Native.Nat.{ℕ, zero, suc}
+use lib.ListN.{length, getD, take, drop}
 use lib.Dec.{leb}
 use Rattle.lemmas.specs.Lists.{every}
 use Rattle.rules.specs.declared.Entry.{Entry}
 use Rattle.rules.specs.Drive as rules
 use Rattle.rules.specs.Drive.{mostObjects, mostEntries}
-use Rattle.keyring.specs.View.{keysOf}
+use Rattle.keyring.specs.Keys.{keysIn}
 use Rattle.memory.specs.Memory.{entries, noEntry}
-use Rattle.partition.specs.Padded.{padded}
-use Rattle.partition.specs.declared.Partition.{Partition}
-use Rattle.partition.specs.Partition.{viewed}
+use Rattle.state.specs.Padded.{padded}
+use Rattle.state.specs.Table.{tableSize, viewed}
 use Rattle.drive.specs.declared.Drive.{Drive}
+
+-- n partitions' tables, which stand one after the other
+unfoldable pub tablesIn : ℕ → List ℕ → List (List ℕ)
+tablesIn zero l = []
+tablesIn (suc n) l = take tableSize l ∷ tablesIn n (drop tableSize l)
 
 -- the memories, by their lengths: each has 64 places of its own, one after the other, and its entries stand first in them. A
 -- length over 64 is that many entries, so that no such record is sound
@@ -30,13 +34,13 @@ memoriesOf ns s h t n = memoriesIn ns (entries s h t n)
 unfoldable pub view : Drive → rules.Drive
 view d = record {
   size = d .size;
-  tables = record { highWater = d .highwater; keys = keysOf (d .keys); partitions = map viewed (d .partitions) };
+  tables = record { highWater = d .highwater; keys = keysIn (d .keys); partitions = map viewed (tablesIn 4 (d .tables)) };
   memories = memoriesOf (d .lengths) (d .slots) (d .holders) (d .times) (d .counts);
 }
 
 -- ---- a record of which no count passes its array, as every sound one is
-abbrev pub few : Partition → Bool
-few p = leb (p .objects .count) mostObjects
+abbrev pub few : List ℕ → Bool
+few t = leb (getD t 2 0) mostObjects
 
 abbrev pub short : ℕ → Bool
 short n = leb n mostEntries
@@ -51,6 +55,7 @@ pub record Placed (ns s h t n : List ℕ) : Type 0 where
   pub counts : length n ≡ 320
 
 pub record Counted (d : Drive) : Type 0 where
-  pub objects : every few (d .partitions) ≡ true
-  pub four : length (d .partitions) ≡ 4
+  pub keys : length (d .keys) ≡ 462
+  pub tables : length (d .tables) ≡ 268
+  pub objects : every few (tablesIn 4 (d .tables)) ≡ true
   pub memories : Placed (d .lengths) (d .slots) (d .holders) (d .times) (d .counts)

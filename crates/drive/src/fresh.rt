@@ -3,31 +3,35 @@ ghost use mathlib.Core.Path.{_≡_};
 ghost use mathlib.Core.Bool.{true, _&&_};
 ghost use mathlib.Core.List.{map};
 ghost use Prim.Native.Nat.{max};
+ghost use lib.Dec.{leb};
+ghost use lib.ListN.{length};
 ghost use Rattle.lemmas.specs.Lists.{every};
 ghost use Rattle.lemmas.specs.Tests.{_is_};
-ghost use Rattle.rules.specs.Drive.{soundPartition, sound};
-ghost use Rattle.partition.specs.Partition.{viewed};
-ghost use Rattle.drive.specs.View.{view, few, short, Counted};
-use super::Drive;
-use partition::Partition;
+ghost use Rattle.rules.specs.Drive.{largestMedium, quarter as quarterOf, soundPartition};
+ghost use Rattle.state.specs.Table.{viewed};
+ghost use Rattle.drive.specs.View.{tablesIn, few, short};
 
-// Whether every partition is sound; and then no count passes its array.
-fn sound_partitions(ps: [Partition; 4], quarter: u32) -> bool
-    ensures { λ r. ⌜ (r ≡ every (soundPartition quarter) (map viewed ps)) × (r ≡ true → every few ps ≡ true) ⌝ }
+// Whether every partition is sound; and then no count passes its places.
+fn sound_tables(tables: &[u32], quarter: u32) -> bool
+    requires { ⌜ length (now tables) ≡ 268 ⌝ }
+    ensures { λ r. ⌜ (r ≡ every (soundPartition quarter) (map viewed (tablesIn 4 (now (tables .entry)))))
+        × (r ≡ true → every few (tablesIn 4 (now (tables .entry))) ≡ true) ⌝ }
 {
     let mut r = true;
     let mut i = 0;
     while i < 4 {
-        let p = ps[i];
-        r = r & partition::sound_partition(p, quarter);
+        let at = 67 * i;
+        let end = at + 67;
+        r = r & soundness::sound_table(&tables[at..end], quarter);
         i += 1;
     }
     r
 }
 
 // Whether no memory has over 64 entries.
-fn short_memories(ls: [usize; 5]) -> bool
-    ensures { λ r. ⌜ r ≡ every short ls ⌝ }
+fn short_memories(ls: &[usize]) -> bool
+    requires { ⌜ length (now ls) ≡ 5 ⌝ }
+    ensures { λ r. ⌜ r ≡ every short (now (ls .entry)) ⌝ }
 {
     let mut r = true;
     let mut i = 0;
@@ -38,17 +42,18 @@ fn short_memories(ls: [usize; 5]) -> bool
     r
 }
 
-// Whether row 1 does not apply: the record is sound, and a medium of n bytes is its own.
-pub fn is_ready(d: Drive, n: usize) -> bool
-    ensures { λ r. ⌜ (r ≡ (sound (view d) && n is d .size)) × (r ≡ true → Counted d) ⌝ }
+// Whether row 1 does not apply: of M, the tables and the memories' lengths of a record, and a medium of n bytes.
+pub fn is_ready(size: usize, tables: &[u32], lengths: &[usize], n: usize) -> bool
+    requires { ⌜ (length (now tables) ≡ 268) × (length (now lengths) ≡ 5) ⌝ }
+    ensures { λ r. ⌜ (r ≡ (leb size largestMedium && every (soundPartition (quarterOf size)) (map viewed (tablesIn 4 (now (tables .entry))))
+        && every short (now (lengths .entry)) && n is size))
+        × (r ≡ true → every few (tablesIn 4 (now (tables .entry))) ≡ true) ⌝ }
 {
-    if d.size > 16777216 {
+    if size > 16777216 {
         return false;
     }
-    let ps = d.partitions;
-    let ls = d.lengths;
-    let quarter = (d.size / 4) as u32;
-    sound_partitions(ps, quarter) & short_memories(ls) & (n == d.size)
+    let quarter = (size / 4) as u32;
+    sound_tables(tables, quarter) & short_memories(lengths) & (n == size)
 }
 
 // The later of two times.

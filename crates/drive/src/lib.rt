@@ -1,8 +1,6 @@
 // The drive of document 01: its record, format and the gate.
 ghost use mathlib.Core.Path.{_≡_};
 ghost use Rattle.drive.specs.Met.{callOf, FormatMet, GateMet};
-use keyring::Keys;
-use partition::Partition;
 use wire::Parsed;
 
 mod blank;
@@ -11,14 +9,15 @@ mod replay;
 mod serve;
 
 // Plain data, passed by value and returned. Nothing is asked of a record passed in: row 1 refuses one that is not sound.
-// `size` is the medium's length M, `highwater` document 01's mark. The five replay memories (0 to 3 are the partitions', 4 is
-// that of slots 3 and 4) stand in arrays that can be lent: memory m has lengths[m] entries, in order of grant, their numbers
-// from place 64 × m on in the four arrays.
+// `size` is the medium's length M, `highwater` document 01's mark. All else stands in arrays of numbers, which can be lent:
+// the keys as `keyring` has them; the partitions' tables, one after the other, as `state` has them; and the five replay
+// memories (0 to 3 are the partitions', 4 is that of slots 3 and 4): memory m has lengths[m] entries, in order of grant, their
+// numbers from place 64 × m on in the four arrays.
 pub struct Drive {
     pub size: usize,
     pub highwater: u64,
-    pub keys: Keys,
-    pub partitions: [Partition; 4],
+    pub keys: [u8; 462],
+    pub tables: [u32; 268],
     pub lengths: [usize; 5],
     pub slots: [u8; 320],
     pub holders: [u32; 320],
@@ -39,31 +38,29 @@ pub struct Formatted {
     pub drive: Drive,
 }
 
-// A drive but for its replay memories.
+// An answer's numbers: all of it but the drive's arrays.
 struct Core {
+    row: u32,
+    length: usize,
     size: usize,
     highwater: u64,
-    keys: Keys,
-    partitions: [Partition; 4],
 }
 
-// What a frame can see of a drive: M, the mark, the keys, its own partition, and of its own replay memory whether that holds
-// its nonce, and how many entries.
+// What a frame can see of a drive beside keys and its own partition's table: M, the mark, and of its own replay memory
+// whether that holds its nonce, and how many entries.
 struct Share {
     size: usize,
     highwater: u64,
-    keys: Keys,
-    partition: Partition,
     replayed: bool,
     held: usize,
 }
 
-// Row and reply length, and the keys and the partition after the call.
+// Row and reply length; and what a grant needs of its operation: the next version, a new extent's start.
 struct Outcome {
     row: u32,
     length: usize,
-    keys: Keys,
-    partition: Partition,
+    next: u32,
+    place: u32,
 }
 
 // Makes a medium a drive's: every byte becomes 0. Refused, the medium stays as it is, and the drive returned has nothing.
@@ -72,15 +69,13 @@ pub fn format(medium: &mut [u8], first: u32, master: &[u8], key: &[u8]) -> Forma
 {
     let row = blank::format_row(medium.len(), first, master.len(), key.len());
     if row != 0 {
-        let none = keyring::no_key();
-        let drive = blank::new_drive(0, 0, none, none);
+        let drive = blank::new_drive(0, 0, [0; 462]);
         return Formatted { row, drive };
     }
     let size = medium.len();
-    let m = blank::key_of(master);
-    let k = blank::key_of(key);
     extent::clear_all(medium);
-    let drive = blank::new_drive(size, first, m, k);
+    let keys = keyring::new_keys(master, key);
+    let drive = blank::new_drive(size, first, keys);
     Formatted { row: 0, drive }
 }
 
@@ -90,21 +85,21 @@ pub fn format(medium: &mut [u8], first: u32, master: &[u8], key: &[u8]) -> Forma
 pub fn gate(drive: Drive, medium: &mut [u8], frame: &[u8], clock: u64, reply: &mut [u8]) -> Answer
     ensures { λ r. ⌜ GateMet drive (now (medium .entry)) (callOf (now (frame .entry)) clock (now (reply .entry))) r (now (medium .exit)) (now (reply .exit)) ⌝ }
 {
-    let keys = drive.keys;
-    let partitions = drive.partitions;
     let mut core = Core {
+        row: 1,
+        length: 0,
         size: drive.size,
         highwater: drive.highwater,
-        keys,
-        partitions,
     };
+    let mut keys = drive.keys;
+    let mut tables = drive.tables;
     let mut lengths = drive.lengths;
     let mut slots = drive.slots;
     let mut holders = drive.holders;
     let mut times = drive.times;
     let mut counts = drive.counts;
-    if !fresh::is_ready(drive, medium.len()) {
-        return answered(1, 0, core, lengths, slots, holders, times, counts);
+    if !fresh::is_ready(drive.size, &tables, &lengths, medium.len()) {
+        return answered(core, keys, tables, lengths, slots, holders, times, counts);
     }
     let mark = fresh::later(drive.highwater, clock);
     core.highwater = mark;
@@ -118,32 +113,30 @@ pub fn gate(drive: Drive, medium: &mut [u8], frame: &[u8], clock: u64, reply: &m
     );
     let parsed = wire::parse(frame);
     let Parsed::Fields(c, q) = parsed else {
-        let row = wire::row_of(parsed);
-        return answered(row, 0, core, lengths, slots, holders, times, counts);
+        core.row = wire::row_of(parsed);
+        return answered(core, keys, tables, lengths, slots, holders, times, counts);
     };
-    let i = c.partition as usize;
     let k = serve::memory_of(c);
     let nonce = judge::entry_of(c, wire::numbers(q));
     let replayed = replay::is_replayed(&lengths, &slots, &holders, &times, &counts, k, nonce);
     let held = lengths[k];
-    let keys = core.keys;
-    let partition = core.partitions[i];
     let share = Share {
         size: core.size,
         highwater: mark,
-        keys,
-        partition,
         replayed,
         held,
     };
-    let out = serve::serve(share, medium, frame, reply, c, q);
+    let at = 67 * c.partition as usize;
+    let end = at + 67;
+    let out = serve::serve(share, &keys, &tables[at..end], medium, frame, reply, c, q);
+    core.row = out.row;
+    core.length = out.length;
     if out.row != 0 {
-        return answered(out.row, 0, core, lengths, slots, holders, times, counts);
+        return answered(core, keys, tables, lengths, slots, holders, times, counts);
     }
-    let keys = out.keys;
-    let partition = out.partition;
-    core.keys = keys;
-    core.partitions[i] = partition;
+    serve::change_keys(&mut keys, frame, c, q);
+    let o = q.operation;
+    partition::apply(&mut tables[at..end], o, c.object, out.next, out.place);
     replay::enter(
         &mut lengths,
         &mut slots,
@@ -153,14 +146,14 @@ pub fn gate(drive: Drive, medium: &mut [u8], frame: &[u8], clock: u64, reply: &m
         k,
         nonce,
     );
-    answered(0, out.length, core, lengths, slots, holders, times, counts)
+    answered(core, keys, tables, lengths, slots, holders, times, counts)
 }
 
 // An answer, with the drive of these parts.
 fn answered(
-    row: u32,
-    length: usize,
     core: Core,
+    keys: [u8; 462],
+    tables: [u32; 268],
     lengths: [usize; 5],
     slots: [u8; 320],
     holders: [u32; 320],
@@ -168,13 +161,13 @@ fn answered(
     counts: [u32; 320],
 ) -> Answer
     ensures { λ r. ⌜ r ≡ record {
-      row = row;
-      length = length;
+      row = core .row;
+      length = core .length;
       drive = record {
         size = core .size;
         highwater = core .highwater;
-        keys = core .keys;
-        partitions = core .partitions;
+        keys = keys;
+        tables = tables;
         lengths = lengths;
         slots = slots;
         holders = holders;
@@ -183,16 +176,14 @@ fn answered(
       };
     } ⌝ }
 {
-    let keys = core.keys;
-    let partitions = core.partitions;
     Answer {
-        row,
-        length,
+        row: core.row,
+        length: core.length,
         drive: Drive {
             size: core.size,
             highwater: core.highwater,
             keys,
-            partitions,
+            tables,
             lengths,
             slots,
             holders,

@@ -14,7 +14,9 @@ ghost use Rattle.rules.specs.Drive.{largestMedium};
 ghost use Rattle.rules.specs.Frame.{fields, covered};
 ghost use Rattle.rules.specs.Gate.{granted};
 ghost use Rattle.placing.specs.Placing.{told};
-ghost use Rattle.partition.specs.Partition.{partitionOf};
+ghost use Rattle.state.specs.Table.{tableSize, partitionIn};
+ghost use Rattle.keyring.specs.Keys.{keysIn};
+ghost use Rattle.set_key.specs.Keys.{keysAfter};
 ghost use Rattle.drive.specs.Share.{alone, admitted, Ready, Readied, Given};
 ghost use Rattle.drive.specs.Site.{siteOf, Granting, Granted};
 use super::Outcome;
@@ -23,7 +25,6 @@ use digest::mac;
 use digest::mac::Mac;
 use effect::Site;
 use lemmas::pick;
-use partition::Partition;
 use placing::Place;
 use rules::Credential;
 use wire::ParsedRequest;
@@ -77,12 +78,12 @@ fn start_of(p: Place) -> u32
 }
 
 // Where a grant works.
-fn site_of(size: usize, p: Partition, c: Credential, place: Place) -> Site
-    requires { ⌜ (size ≤ largestMedium) × (c .partition < 4) ⌝ }
-    ensures { λ r. ⌜ r ≡ siteOf size (partitionOf p) c (told place) ⌝ }
+fn site_of(size: usize, table: &[u32], c: Credential, place: Place) -> Site
+    requires { ⌜ (size ≤ largestMedium) × (c .partition < 4) × (length (now table) ≡ tableSize) ⌝ }
+    ensures { λ r. ⌜ r ≡ siteOf size (partitionIn (now (table .entry))) c (told place) ⌝ }
 {
     let quarter = (size / 4) as u32;
-    let t = partition::named(p, c.object);
+    let t = state::named(table, c.object);
     let o = t.object;
     Site {
         base: c.partition as u32 * quarter,
@@ -90,16 +91,17 @@ fn site_of(size: usize, p: Partition, c: Credential, place: Place) -> Site
         size: o.size,
         place: start_of(place),
         told: pick(c.object == 0, quarter, o.size),
-        version: judge::present(p, c.object, t),
-        next: effect::next_version(p.last),
+        version: judge::present(table[0], c.object, t),
+        next: effect::next_version(table[1]),
     }
 }
 
-// A grant: the reply and the medium, and the keys and the partition after it. The memory is left to the caller.
+// A grant: the reply and the medium. Keys, table and memory are left to the caller.
 fn grant(
     share: Share,
     seen: Mac,
-    key: &[u8],
+    keys: &[u8],
+    table: &[u32],
     medium: &mut [u8],
     frame: &[u8],
     reply: &mut [u8],
@@ -107,69 +109,67 @@ fn grant(
     q: ParsedRequest,
     place: Place,
 ) -> Outcome
-    requires { ⌜ Granted share seen (now key) (now medium) (now frame) (now reply) c q (told place) ⌝ }
-    ensures { λ r. ⌜ ((l : List Entry) → Granting share l seen (now (key .entry)) (now (medium .entry)) (now (frame .entry)) (now (reply .entry)) c q (told place)
-        → Given (granted (alone share l) (now (medium .entry)) (fields (now (frame .entry))) (now (reply .entry))) (fields (now (frame .entry))) r (now (medium .exit)) (now (reply .exit))) ⌝ }
+    requires { ⌜ Granted share (now keys) (now table) seen (now medium) (now frame) (now reply) c q (told place) ⌝ }
+    ensures { λ r. ⌜ ((l : List Entry) → Granting share (now (keys .entry)) (now (table .entry)) l seen (now (medium .entry)) (now (frame .entry)) (now (reply .entry)) c q (told place)
+        → Given (granted (alone share (now (keys .entry)) (now (table .entry)) l) (now (medium .entry)) (fields (now (frame .entry))) (now (reply .entry)))
+        (now (keys .entry)) (now (table .entry)) (now (frame .entry)) q r (now (medium .exit)) (now (reply .exit))) ⌝ }
 {
     let r = wire::numbers(q);
     let o = q.operation;
-    let p = share.partition;
-    let keys = share.keys;
-    let s = site_of(share.size, p, c, place);
+    let s = site_of(share.size, table, c, place);
     let end = frame.len() - 32;
     sealed_reply::put_reply(reply, medium, seen, r, o, s);
     effect::put_bytes(medium, &frame[64..end], o, s);
     Outcome {
         row: 0,
         length: reply::reply_length(r) as usize,
-        keys: set_key::keys_after(keys, o, c.slot, c.partition as usize, key, &frame[36..end]),
-        partition: partition::after(p, o, c.object, s.next, s.place),
+        next: s.next,
+        place: s.place,
     }
 }
 
 // A refusal: nothing changes.
-fn refusal(row: u32, share: Share) -> Outcome
-    ensures { λ r. ⌜ (r .row ≡ row) × (r .length ≡ 0) × (r .keys ≡ share .keys) × (r .partition ≡ share .partition) ⌝ }
+fn refusal(row: u32) -> Outcome
+    ensures { λ r. ⌜ r ≡ record { row = row; length = 0; next = 0; place = 0 } ⌝ }
 {
-    let keys = share.keys;
-    let partition = share.partition;
     Outcome {
         row,
         length: 0,
-        keys,
-        partition,
+        next: 0,
+        place: 0,
     }
 }
 
 // Rows 8 to 23, or the grant. No digest is computed for a frame that row 8 refuses.
 pub fn serve(
     share: Share,
+    keys: &[u8],
+    table: &[u32],
     medium: &mut [u8],
     frame: &[u8],
     reply: &mut [u8],
     c: Credential,
     q: ParsedRequest,
 ) -> Outcome
-    requires { ⌜ Readied share (now medium) (now frame) c q ⌝ }
-    ensures { λ r. ⌜ ((l : List Entry) → Ready share l (now (medium .entry)) (now (frame .entry)) c q
-        → Given (admitted (alone share l) (now (medium .entry)) (fields (now (frame .entry))) (now (reply .entry))) (fields (now (frame .entry))) r (now (medium .exit)) (now (reply .exit))) ⌝ }
+    requires { ⌜ Readied share (now keys) (now table) (now medium) (now frame) c q ⌝ }
+    ensures { λ r. ⌜ ((l : List Entry) → Ready share (now (keys .entry)) (now (table .entry)) l (now (medium .entry)) (now (frame .entry)) c q
+        → Given (admitted (alone share (now (keys .entry)) (now (table .entry)) l) (now (medium .entry)) (fields (now (frame .entry))) (now (reply .entry)))
+        (now (keys .entry)) (now (table .entry)) (now (frame .entry)) q r (now (medium .exit)) (now (reply .exit))) ⌝ }
 {
-    let keys = share.keys;
-    let p = share.partition;
-    let os = p.objects;
-    let key = keyring::key_in(keys, c.partition as usize, c.slot);
-    if !key.set {
-        return refusal(8, share);
+    let j = keyring::place_of(c.slot, c.partition as usize);
+    if !keyring::is_set(keys, j) {
+        return refusal(8);
     }
-    let secret = key.bytes;
-    let seen = opened(&secret, frame);
+    let from = 32 * j;
+    let to = from + 32;
+    let seen = opened(&keys[from..to], frame);
     if !is_signed(seen, frame, q.level) {
-        return refusal(9, share);
+        return refusal(9);
     }
-    let place = judge::place_for(os, (share.size / 4) as u32, wire::numbers(q));
+    let place = judge::place_for(table, (share.size / 4) as u32, wire::numbers(q));
     let row = judge::judge(
         share.highwater,
-        p,
+        table,
         share.replayed,
         share.held,
         c,
@@ -178,7 +178,18 @@ pub fn serve(
         reply.len(),
     );
     if row != 0 {
-        return refusal(row, share);
+        return refusal(row);
     }
-    grant(share, seen, &secret, medium, frame, reply, c, q, place)
+    grant(share, seen, keys, table, medium, frame, reply, c, q, place)
+}
+
+// The keys after a grant.
+pub fn change_keys(keys: &mut [u8], frame: &[u8], c: Credential, q: ParsedRequest)
+    requires { ⌜ length (now frame) ≡ 96 + fields (now frame) .req .n ⌝ }
+    ensures { λ _. ⌜ now (keys .exit) ≡ keysAfter (q .operation) (c .slot) (c .partition)
+        (fields (now (frame .entry)) .request ++ fields (now (frame .entry)) .payload) (now (keys .entry)) ⌝ }
+{
+    let o = q.operation;
+    let end = frame.len() - 32;
+    set_key::apply(keys, o, c.slot, c.partition as usize, &frame[36..end]);
 }

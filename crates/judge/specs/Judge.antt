@@ -45,23 +45,19 @@ use Rattle.rules.specs.Rows.{
   row23,
   driveRows,
 }
-use Rattle.state.specs.declared.Objects.{Objects}
-use Rattle.state.specs.Objects.{listed}
-use Rattle.partition.specs.declared.Partition.{Partition}
-use Rattle.partition.specs.declared.Target.{Target}
-use Rattle.partition.specs.Partition.{partitionOf, targetOf}
+use Rattle.state.specs.declared.Target.{Target}
 
 -- "A grant enters (slot, holder, T, count)"
 unfoldable pub entryOf : Credential → Request → Entry
 entryOf c r = record { slot = c .slot; holder = c .holder; time = r .time; count = r .count }
 
 -- where a new object's extent starts; none where no object is created
-abbrev pub placeFor : ℕ → Objects → Request → Option ℕ
-placeFor q os r = cond (r .operation isnt 5) none (bestFit extentStep q (listed os) (r .B))
+abbrev pub placeFor : ℕ → List Object → Request → Option ℕ
+placeFor q l r = cond (r .operation isnt 5) none (bestFit extentStep q l (r .B))
 
--- the present version of what a number names
-abbrev pub presentIn : Partition → ℕ → Target → ℕ
-presentIn p n t = cond (n is 0) (p .version) (t .object .version)
+-- the present version of what a number names: the partition's for number 0, else that of the object found
+abbrev pub presentIn : ℕ → ℕ → Target → ℕ
+presentIn version n t = cond (n is 0) version (t .object .version)
 
 -- ---- the rows, `rest` being the answer where none of them applies
 abbrev pub timeRow : ℕ → Bool → Credential → ℕ → Request → ℕ → ℕ

@@ -1,23 +1,22 @@
-// Rows 10 to 23 of document 01, judged of one partition and of what is known of one replay memory, which has no outlived
-// entry: whether it holds the frame's nonce (`replayed`), and how many entries it has (`held`). Every test is made whatever the others say; the lowest row that applies is the answer.
+// Rows 10 to 23 of document 01, judged of one partition's table and of what is known of one replay memory, which has no
+// outlived entry: whether it holds the frame's nonce (`replayed`), and how many entries it has (`held`). Every test is made whatever the others say; the lowest row that applies is the answer.
 ghost use mathlib.Core.Path.{_≡_};
 ghost use mathlib.Core.Bool.{not, cond};
 ghost use Prim.Native.Nat.{_-_};
+ghost use lib.ListN.{getD};
 ghost use Rattle.lemmas.specs.Rows.{firstRow};
 ghost use Rattle.lemmas.specs.Lists.{missing};
 ghost use Rattle.rules.specs.Rows.{untimely, bit, outOfRange};
-ghost use Rattle.partition.specs.Partition.{partitionOf};
+ghost use Rattle.state.specs.Table.{heldIn, partitionIn};
 ghost use Rattle.placing.specs.Placing.{told};
 ghost use Rattle.wire.specs.Parse.{operationNumber, requestTold};
 ghost use Rattle.judge.specs.Judge.{entryOf, placeFor, presentIn, timeRow, objectRow, roomRow, judgeRows};
 use lemmas::pick;
-use partition::Partition;
-use partition::Target;
 use placing::Place;
 use rules::Credential;
 use rules::Entry;
 use rules::Request;
-use state::Objects;
+use state::Target;
 use wire::Operation;
 use wire::ParsedRequest;
 
@@ -34,13 +33,13 @@ pub fn entry_of(c: Credential, r: Request) -> Entry
 }
 
 // Where a new object's extent starts; nowhere where none is asked for.
-pub fn place_for(os: Objects, quarter: u32, r: Request) -> Place
-    ensures { λ p. ⌜ told p ≡ placeFor quarter os r ⌝ }
+pub fn place_for(table: &[u32], quarter: u32, r: Request) -> Place
+    ensures { λ p. ⌜ told p ≡ placeFor quarter (heldIn (now (table .entry))) r ⌝ }
 {
     if r.operation != 5 {
         return Place::Nowhere;
     }
-    placing::best_fit(1, quarter, r.B, os)
+    placing::best_fit(1, quarter, r.B, table)
 }
 
 // Whether there is no place for a new extent.
@@ -103,10 +102,20 @@ fn time_row(
 }
 
 // The present version: object 0 means the partition.
-pub fn present(p: Partition, number: u32, t: Target) -> u32
-    ensures { λ r. ⌜ r ≡ presentIn p number t ⌝ }
+pub fn present(version: u32, number: u32, t: Target) -> u32
+    ensures { λ r. ⌜ r ≡ presentIn version number t ⌝ }
 {
-    pick(number == 0, p.version, t.object.version)
+    pick(number == 0, version, t.object.version)
+}
+
+// A number of a table, 0 past its end.
+fn number_at(table: &[u32], i: usize) -> u32
+    ensures { λ r. ⌜ r ≡ getD (now (table .entry)) i 0 ⌝ }
+{
+    if table.len() <= i {
+        return 0;
+    }
+    table[i]
 }
 
 // Row 16's test: not within the credential's range.
@@ -133,25 +142,25 @@ fn object_row(c: Credential, r: Request, t: Target, version: u32, rest: u32) -> 
 }
 
 // Rows 18 to 23: number, objects, place, versions, memory, reply space.
-fn room_row(p: Partition, held: usize, r: Request, place: Place, space: usize) -> u32
-    ensures { λ x. ⌜ x ≡ roomRow (partitionOf p) held r (told place) space ⌝ }
+fn room_row(table: &[u32], held: usize, r: Request, place: Place, space: usize) -> u32
+    ensures { λ x. ⌜ x ≡ roomRow (partitionIn (now (table .entry))) held r (told place) space ⌝ }
 {
-    let os = p.objects;
-    let taken = partition::named(p, r.A);
+    let taken = state::named(table, r.A);
+    let last = number_at(table, 1);
     let gives = (r.operation == 4) | (r.operation == 5);
     let creates = r.operation == 5;
     let x = pick((space as u64) < reply::reply_length(r), 23, 0);
     let x = pick(held == 64, 22, x);
-    let x = pick(gives & (p.last == 4294967295), 21, x);
+    let x = pick(gives & (last == 4294967295), 21, x);
     let x = pick(creates & is_nowhere(place), 20, x);
-    let x = pick(creates & (state::object_count(os) == 16), 19, x);
+    let x = pick(creates & (state::object_count(table) == 16), 19, x);
     pick(creates & !taken.missing, 18, x)
 }
 
 // The lowest of rows 10 to 23 that applies, or 0.
 pub fn judge(
     mark: u64,
-    p: Partition,
+    table: &[u32],
     replayed: bool,
     held: usize,
     c: Credential,
@@ -159,12 +168,13 @@ pub fn judge(
     place: Place,
     space: usize,
 ) -> u32
-    ensures { λ x. ⌜ x ≡ firstRow (judgeRows mark (partitionOf p) replayed held c (requestTold q) (told place) space) ⌝ }
+    ensures { λ x. ⌜ x ≡ firstRow (judgeRows mark (partitionIn (now (table .entry))) replayed held c (requestTold q) (told place) space) ⌝ }
 {
     let r = wire::numbers(q);
-    let t = partition::named(p, c.object);
-    let v = present(p, c.object, t);
-    let x = room_row(p, held, r, place, space);
+    let t = state::named(table, c.object);
+    let version = number_at(table, 0);
+    let v = present(version, c.object, t);
+    let x = room_row(table, held, r, place, space);
     let x = object_row(c, r, t, v, x);
     time_row(mark, replayed, c, q, r, x)
 }

@@ -1,1 +1,2 @@
-mod Arrays
+-- Laws that this crate's own proofs use.
+mod Places

@@ -1,1 +1,3 @@
-pub mod View
+-- The drive's keys in their bytes, and the laws that callers use.
+pub mod Keys
+pub mod Laws

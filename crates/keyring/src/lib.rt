@@ -1,106 +1,89 @@
-// The drive's keys: which one a slot names, and where operation 7 puts a new one.
+// The drive's keys in one lent array of 462 bytes: key j stands in the 32 bytes from 32 * j on, and byte 448 + j, not 0,
+// says that it was set. Keys 0 to 3 are the four partitions' working key 0 (document 01's black), 4 to 7 their working
+// key 1 (gold), 8 to 11 the partition keys, 12 the drive key, 13 the master key; 14 is no key.
 ghost use mathlib.Core.Path.{_≡_};
-ghost use mathlib.Core.List.{map};
-ghost use mathlib.Core.Option.{none, some};
-ghost use lib.ListN.{getD, replicate};
-ghost use Rattle.rules.specs.Operations.{keyIn, keyPut, setAt};
-ghost use Rattle.keyring.specs.View.{keyOf, keysOf};
+ghost use Prim.Native.Nat.{_≤_};
+ghost use Rattle.keyring.specs.Keys.{isSet, ofFour, placeOf, targetOf, keyPutAt, freshKeys};
 
-// A key, or none where `set` is false.
-pub struct Key {
-    pub set: bool,
-    pub bytes: [u8; 32],
-}
-
-// Master and drive key; the partitions' keys, and their working keys 0 and 1 (document 01's black and gold).
-pub struct Keys {
-    pub master: Key,
-    pub drive: Key,
-    pub partition: [Key; 4],
-    pub working0: [Key; 4],
-    pub working1: [Key; 4],
-}
-
-// A key that was never set: 32 zero bytes that count for nothing.
-pub fn no_key() -> Key
-    ensures { λ r. ⌜ (keyOf r ≡ none) × (r .bytes ≡ replicate 32 0) ⌝ }
+// Partition `p`'s key among the four from a place on, none past the four.
+fn of_four(first: usize, p: usize) -> usize
+    requires { ⌜ first ≤ 8 ⌝ }
+    ensures { λ r. ⌜ r ≡ ofFour first p ⌝ }
 {
-    let bytes = [0u8; 32];
-    Key { set: false, bytes }
+    if p < 4 { first + p } else { 14 }
 }
 
-fn set_key(bytes: [u8; 32]) -> Key
-    ensures { λ r. ⌜ keyOf r ≡ some bytes ⌝ }
-{
-    Key { set: true, bytes }
-}
-
-// The key of partition `p`, none past the four.
-fn key_at(list: [Key; 4], p: usize) -> Key
-    ensures { λ r. ⌜ keyOf r ≡ getD (map keyOf list) p none ⌝ }
-{
-    if p < 4 { list[p] } else { no_key() }
-}
-
-// The key in a slot, as partition `p` has it.
-pub fn key_in(keys: Keys, p: usize, slot: u8) -> Key
-    ensures { λ r. ⌜ keyOf r ≡ keyIn (keysOf keys) p slot ⌝ }
+// The key that a slot names, as partition `p` has it.
+pub fn place_of(slot: u8, p: usize) -> usize
+    ensures { λ r. ⌜ r ≡ placeOf slot p ⌝ }
 {
     match slot {
-        0 => {
-            let list = keys.working0;
-            key_at(list, p)
-        }
-        1 => {
-            let list = keys.working1;
-            key_at(list, p)
-        }
-        2 => {
-            let list = keys.partition;
-            key_at(list, p)
-        }
-        3 => keys.drive,
-        4 => keys.master,
-        _ => no_key(),
+        0 => of_four(0, p),
+        1 => of_four(4, p),
+        2 => of_four(8, p),
+        3 => 12,
+        4 => 13,
+        _ => 14,
     }
 }
 
-// The list with a key set at `p`; past the four it stays.
-fn with_key_at(list: [Key; 4], p: usize, new: [u8; 32]) -> [Key; 4]
-    ensures { λ r. ⌜ map keyOf r ≡ setAt p new (map keyOf list) ⌝ }
+// The key that operation 7 sets under a slot's key: slot 4 sets the drive key, slot 3 partition `a`'s, slot 2 working
+// key `a` of partition `p`.
+fn target_of(slot: u8, p: usize, a: usize) -> usize
+    ensures { λ r. ⌜ r ≡ targetOf slot p a ⌝ }
 {
-    let mut r = list;
-    if p < 4 {
-        r[p] = set_key(new);
-    }
-    r
-}
-
-// The keys after operation 7 under a slot's key: slot 4 sets the drive key, slot 3 partition `a`'s, slot 2 working key `a` of
-// partition `p`.
-pub fn with_key(keys: Keys, slot: u8, p: usize, a: usize, new: [u8; 32]) -> Keys
-    ensures { λ r. ⌜ keysOf r ≡ keyPut slot p a new (keysOf keys) ⌝ }
-{
-    let mut r = keys;
     if slot == 4 {
-        let k = set_key(new);
-        r.drive = k;
-        return r;
+        return 12;
     }
     if slot == 3 {
-        let list = keys.partition;
-        let next = with_key_at(list, a, new);
-        r.partition = next;
-        return r;
+        return of_four(8, a);
     }
     if a == 0 {
-        let list = keys.working0;
-        let next = with_key_at(list, p, new);
-        r.working0 = next;
-        return r;
+        return of_four(0, p);
     }
-    let list = keys.working1;
-    let next = with_key_at(list, p, new);
-    r.working1 = next;
-    r
+    of_four(4, p)
+}
+
+// Whether key `j` was ever set; false where there is none.
+pub fn is_set(keys: &[u8], j: usize) -> bool
+    ensures { λ r. ⌜ r ≡ isSet (now (keys .entry)) j ⌝ }
+{
+    let there = (keys.len() == 462) & (j < 14);
+    if !there {
+        return false;
+    }
+    keys[448 + j] != 0
+}
+
+// Key `j` becomes `new`. Where there is none, or a length does not fit, nothing is written.
+fn put_at(keys: &mut [u8], j: usize, new: &[u8])
+    ensures { λ _. ⌜ now (keys .exit) ≡ keyPutAt j (now (new .entry)) (now (keys .entry)) ⌝ }
+{
+    let fits = (j < 14) & (keys.len() == 462) & (new.len() == 32);
+    if !fits {
+        return;
+    }
+    octets::copy_to(keys, 32 * j, new);
+    keys[448 + j] = 1;
+}
+
+// Operation 7 under a slot's key: the key that it sets becomes `new`.
+pub fn put_key(keys: &mut [u8], slot: u8, p: usize, a: usize, new: &[u8])
+    ensures { λ _. ⌜ now (keys .exit) ≡ keyPutAt (targetOf slot p a) (now (new .entry)) (now (keys .entry)) ⌝ }
+{
+    put_at(keys, target_of(slot, p, a), new);
+}
+
+// A fresh drive's keys: master key and drive key are set, no other is. Where either is not 32 bytes, none is.
+pub fn new_keys(master: &[u8], drive: &[u8]) -> [u8; 462]
+    ensures { λ r. ⌜ r ≡ freshKeys (now (master .entry)) (now (drive .entry)) ⌝ }
+{
+    let mut keys = [0u8; 462];
+    let fits = (master.len() == 32) & (drive.len() == 32);
+    if !fits {
+        return keys;
+    }
+    put_at(&mut keys, 12, drive);
+    put_at(&mut keys, 13, master);
+    keys
 }

@@ -2,6 +2,7 @@
 // counts, one number of each entry in each. Everything is total: where the slices differ in length, the entries are as
 // many as the shortest has.
 ghost use mathlib.Core.Path.{_≡_};
+ghost use mathlib.Core.Bool.{true, false};
 ghost use Prim.Native.Nat.{ℕ, _-_, _≤_};
 ghost use lib.Dec.{ltb};
 ghost use lib.ListN.{length, take};
@@ -25,12 +26,27 @@ fn floor_of(mark: u64) -> u64
     if mark < 5000 { 0 } else { mark - 5000 }
 }
 
-// Whether one of the first n times is outlived.
-fn stale(times: &[u64], n: usize, mark: u64) -> bool
+// A quick pass over the first n times: true says that none is below the floor; false says nothing. It has no branch and
+// no comparison, so that several times are taken at once. With a floor under 2^63 a time below it wraps to a difference
+// of 2^63 or more, which the highest bit shows; that of a time far above the floor shows it too.
+fn none_below(times: &[u64], n: usize, floor: u64) -> bool
     requires { ⌜ n ≤ length (now times) ⌝ }
-    ensures { λ r. ⌜ r ≡ some? (λ (t : ℕ). ltb t (mark - 5000)) (take n (now (times .entry))) ⌝ }
+    ensures { λ r. ⌜ (r ≡ true → some? (λ (t : ℕ). ltb t floor) (take n (now (times .entry))) ≡ false) ⌝ }
 {
-    let floor = floor_of(mark);
+    let mut seen = floor;
+    let mut i = 0;
+    while i < n {
+        seen = seen | std::num::wrapping_sub_u64(times[i], floor);
+        i += 1;
+    }
+    seen < 0x8000000000000000
+}
+
+// Whether one of the first n times is below the floor.
+fn any_below(times: &[u64], n: usize, floor: u64) -> bool
+    requires { ⌜ n ≤ length (now times) ⌝ }
+    ensures { λ r. ⌜ r ≡ some? (λ (t : ℕ). ltb t floor) (take n (now (times .entry))) ⌝ }
+{
     let mut r = false;
     let mut i = 0;
     while i < n {
@@ -38,6 +54,18 @@ fn stale(times: &[u64], n: usize, mark: u64) -> bool
         i += 1;
     }
     r
+}
+
+// Whether one of the first n times is outlived. Mostly none is, which the quick pass tells.
+fn stale(times: &[u64], n: usize, mark: u64) -> bool
+    requires { ⌜ n ≤ length (now times) ⌝ }
+    ensures { λ r. ⌜ r ≡ some? (λ (t : ℕ). ltb t (mark - 5000)) (take n (now (times .entry))) ⌝ }
+{
+    let floor = floor_of(mark);
+    if none_below(times, n, floor) {
+        return false;
+    }
+    any_below(times, n, floor)
 }
 
 // Moves each of the n entries that live to the front, in their order, and counts them. What stands from there on stays.

@@ -1,3 +1,3 @@
--- A partition of the record as the rules see it, and what operations do to it.
-pub mod Padded
+-- What operations do to a partition and to its table.
 pub mod Partition
+pub mod Applied

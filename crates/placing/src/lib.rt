@@ -1,15 +1,14 @@
 // Document 01, operation 5: where a new object's extent starts, over any step. One pass over the objects: the gap at
 // the quarter's start, then the one at each extent's end, against the best so far. In 64 bits, so no sum wraps.
 ghost use mathlib.Core.Path.{_≡_};
-ghost use mathlib.Core.Bool.{Bool, not, _&&_, _||_, cond};
-ghost use Prim.Native.Nat.{ℕ, _+_, _-_, _^_, _≤_, min};
+ghost use mathlib.Core.Bool.{_||_, cond};
+ghost use Prim.Native.Nat.{_+_, _-_, _^_, _≤_, min};
 ghost use lib.Dec.{leb};
 ghost use Rattle.lemmas.specs.Tests.{_under_};
-ghost use Rattle.rules.specs.BestFit.{spot, better, fits, bestFit};
-ghost use Rattle.state.specs.Objects.{listed};
+ghost use Rattle.rules.specs.BestFit.{spot, better, bestFit};
+ghost use Rattle.state.specs.Table.{heldIn};
 ghost use Rattle.placing.specs.Placing.{told, gapOf, held, runFrom, wins, tried, chosen};
 use rules::Object;
-use state::Objects;
 
 // Bytes from one place up to another; vacant where they are free.
 struct Run {
@@ -43,15 +42,15 @@ fn is_outside(o: Object, at: u64) -> bool
 }
 
 // The bytes from a place up to the next extent or the quarter's end; vacant where the first of them is in no extent.
-fn run_from(os: Objects, quarter: u32, from: u64) -> Run
-    ensures { λ r. ⌜ r ≡ runFrom quarter (listed os) from ⌝ }
+fn run_from(table: &[u32], quarter: u32, from: u64) -> Run
+    ensures { λ r. ⌜ r ≡ runFrom quarter (heldIn (now (table .entry))) from ⌝ }
 {
-    let n = state::object_count(os);
+    let n = state::object_count(table);
     let mut vacant = true;
     let mut to = quarter as u64;
     let mut i = 0;
     while i < n {
-        let o = os.items[i];
+        let o = state::object_at(table, i);
         vacant = vacant & is_outside(o, from);
         to = nearest(from, to, o.start as u64);
         i += 1;
@@ -101,12 +100,12 @@ fn is_winner(step: u32, size: u32, g: Run, best: Run) -> bool
 }
 
 // The better of the best so far and the gap from a place on.
-fn better_of(step: u32, quarter: u32, size: u32, os: Objects, best: Run, from: u64) -> Run
+fn better_of(step: u32, quarter: u32, size: u32, table: &[u32], best: Run, from: u64) -> Run
     requires { ⌜ (from ≤ 2 ^ 33) × (best .from ≤ 2 ^ 33) × (spot step (gapOf best) ≤ quarter) ⌝ }
-    ensures { λ r. ⌜ (held r ≡ tried step quarter (listed os) size (held best) from) × (r .from ≤ 2 ^ 33)
-        × (spot step (gapOf r) ≤ quarter) ⌝ }
+    ensures { λ r. ⌜ (held r ≡ tried step quarter (heldIn (now (table .entry))) size (held best) from)
+        × (r .from ≤ 2 ^ 33) × (spot step (gapOf r) ≤ quarter) ⌝ }
 {
-    let g = run_from(os, quarter, from);
+    let g = run_from(table, quarter, from);
     if is_winner(step, size, g, best) {
         return g;
     }
@@ -114,8 +113,8 @@ fn better_of(step: u32, quarter: u32, size: u32, os: Objects, best: Run, from: u
 }
 
 // The best gap.
-fn best_gap(step: u32, quarter: u32, size: u32, os: Objects) -> Run
-    ensures { λ r. ⌜ (held r ≡ chosen step quarter (listed os) size) × (r .from ≤ 2 ^ 33)
+fn best_gap(step: u32, quarter: u32, size: u32, table: &[u32]) -> Run
+    ensures { λ r. ⌜ (held r ≡ chosen step quarter (heldIn (now (table .entry))) size) × (r .from ≤ 2 ^ 33)
         × (spot step (gapOf r) ≤ quarter) ⌝ }
 {
     let none = Run {
@@ -123,16 +122,16 @@ fn best_gap(step: u32, quarter: u32, size: u32, os: Objects) -> Run
         from: 0,
         to: 0,
     };
-    let n = state::object_count(os);
-    let mut best = better_of(step, quarter, size, os, none, 0);
+    let n = state::object_count(table);
+    let mut best = better_of(step, quarter, size, table, none, 0);
     let mut i = 0;
     while i < n {
-        let o = os.items[i];
+        let o = state::object_at(table, i);
         best = better_of(
             step,
             quarter,
             size,
-            os,
+            table,
             best,
             o.start as u64 + o.size as u64,
         );
@@ -142,10 +141,10 @@ fn best_gap(step: u32, quarter: u32, size: u32, os: Objects) -> Run
 }
 
 // The start of the smallest gap that takes the size from a multiple of the step on, lowest start among equals.
-pub fn best_fit(step: u32, quarter: u32, size: u32, os: Objects) -> Place
-    ensures { λ r. ⌜ told r ≡ bestFit step quarter (listed os) size ⌝ }
+pub fn best_fit(step: u32, quarter: u32, size: u32, table: &[u32]) -> Place
+    ensures { λ r. ⌜ told r ≡ bestFit step quarter (heldIn (now (table .entry))) size ⌝ }
 {
-    let g = best_gap(step, quarter, size, os);
+    let g = best_gap(step, quarter, size, table);
     if g.vacant {
         return Place::At(start_in(step, g) as u32);
     }

@@ -6,8 +6,6 @@ ghost use lib.ListN.{length};
 use drive::Answer;
 use drive::Drive;
 use libc::STDIN_FILENO;
-use partition::Partition;
-use rules::Object;
 use scenario_script::frames::four;
 use scenario_script::script;
 use scenario_script::words;
@@ -36,38 +34,29 @@ fn frame_buffer() -> [u8; 160]
 fn seen(a: Answer, numbers: [u64; 76], kept: [u8; 32]) -> Turn {
     let d = a.drive;
     let keys = d.keys;
-    let p = d.partitions[0];
+    let tables = d.tables;
     let held = d.lengths[0];
-    turn::noted(numbers, kept, d.size, d.highwater, held, keys, p)
+    turn::noted(numbers, kept, d.size, d.highwater, held, keys, tables)
 }
 
-// The second object that `damage` says.
-fn object_of(n: [u64; 76]) -> Object {
-    Object {
-        number: four(n[words::A + 2]),
-        version: four(n[words::A + 3]),
-        size: four(n[words::A + 4]),
-        start: four(n[words::A + 5]),
-    }
-}
-
-// A partition with so many objects, and the second one.
-fn damaged_partition(old: Partition, count: usize, second: Object) -> Partition {
-    let mut p = old;
-    let mut os = p.objects;
-    os.items[1] = second;
-    os.count = count;
-    p.objects = os;
-    p
+// The tables with as many objects in partition 0, and the second one of them, as `damage` says.
+fn damaged_tables(old: [u32; 268], n: [u64; 76]) -> [u32; 268] {
+    let mut t = old;
+    t[2] = four(n[words::B]);
+    t[4] = four(n[words::A + 2]);
+    t[20] = four(n[words::A + 3]);
+    t[36] = four(n[words::A + 4]);
+    t[52] = four(n[words::A + 5]);
+    t
 }
 
 // The drive with M, partition 0's objects and the number of its entries as `damage` says.
 fn damaged(a: Answer, n: [u64; 76]) -> Answer {
     let mut d = a.drive;
-    let p = d.partitions[0];
-    let q = damaged_partition(p, n[words::B] as usize, object_of(n));
+    let old = d.tables;
+    let tables = damaged_tables(old, n);
     d.size = n[words::A] as usize;
-    d.partitions[0] = q;
+    d.tables = tables;
     d.lengths[0] = n[words::A + 6] as usize;
     Answer {
         row: 0,

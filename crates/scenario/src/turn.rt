@@ -1,9 +1,6 @@
 // One line of the script: all that it does but what is done to the drive. The numbers of a turn stand at the places that
 // `words` names.
 ghost use Prim.Native.Nat.{_<_};
-use keyring::Keys;
-use partition::Partition;
-use rules::Object;
 use scenario_script::frames;
 use scenario_script::frames::four;
 use scenario_script::frames::one;
@@ -114,28 +111,24 @@ fn asked(word: usize, own: u64, named: u64) -> u8 {
     one(own)
 }
 
-// The key in the slot that the line names.
-fn key_for(n: [u64; 76], keys: Keys) -> [u8; 32] {
+// The key in the slot that the line names; zeros where none is.
+fn key_for(n: [u64; 76], keys: [u8; 462]) -> [u8; 32] {
     let word = n[words::WORD] as usize;
     let p = asked(word, n[words::PARTITION], n[words::A]);
     let slot = asked(word, n[words::SLOT], n[words::B]);
-    let key = keyring::key_in(keys, p as usize, slot);
-    key.bytes
+    let mut key = [0u8; 32];
+    let j = keyring::place_of(slot, p as usize);
+    if j < 14 {
+        let start = 32 * j;
+        let end = start + 32;
+        octets::copy_to(&mut key, 0, &keys[start..end]);
+    }
+    key
 }
 
-// With the numbers of partition 0's second object.
-fn with_second(old: [u64; 76], o: Object) -> [u64; 76] {
-    let mut n = old;
-    n[words::SEEN + 3] = o.number as u64;
-    n[words::SEEN + 4] = o.version as u64;
-    n[words::SEEN + 5] = o.size as u64;
-    n[words::SEEN + 6] = o.start as u64;
-    n
-}
-
-// Where the object starts that a number names; the largest number where it names none.
-fn start_of(p: Partition, number: u32) -> u64 {
-    let found = partition::named(p, number);
+// Where the object of partition 0 starts that a number names; the largest number where it names none.
+fn start_of(tables: [u32; 268], number: u32) -> u64 {
+    let found = state::named(&tables[..67], number);
     let o = found.object;
     if found.missing {
         u64::MAX
@@ -144,15 +137,17 @@ fn start_of(p: Partition, number: u32) -> u64 {
     }
 }
 
-// With partition 0's numbers.
-fn with_objects(old: [u64; 76], p: Partition) -> [u64; 76] {
+// With the numbers of partition 0 and of its second object.
+fn with_objects(old: [u64; 76], tables: [u32; 268]) -> [u64; 76] {
     let mut n = old;
-    let os = p.objects;
-    let second = os.items[1];
-    n[words::SEEN + 2] = os.count as u64;
-    n[words::LAST] = p.last as u64;
-    n[words::PLACE] = start_of(p, four(n[words::A]));
-    with_second(n, second)
+    n[words::SEEN + 2] = tables[2] as u64;
+    n[words::LAST] = tables[1] as u64;
+    n[words::PLACE] = start_of(tables, four(n[words::A]));
+    n[words::SEEN + 3] = tables[4] as u64;
+    n[words::SEEN + 4] = tables[20] as u64;
+    n[words::SEEN + 5] = tables[36] as u64;
+    n[words::SEEN + 6] = tables[52] as u64;
+    n
 }
 
 // With what the drive has: M, the mark, how many entries partition 0's memory has, its objects, the keys.
@@ -162,15 +157,15 @@ pub fn noted(
     size: usize,
     mark: u64,
     held: usize,
-    keys: Keys,
-    p: Partition,
+    keys: [u8; 462],
+    tables: [u32; 268],
 ) -> Turn {
     let mut n = old;
     n[words::SEEN] = size as u64;
     n[words::SEEN + 1] = mark;
     n[words::SEEN + 7] = held as u64;
     let key = key_for(n, keys);
-    let numbers = with_objects(n, p);
+    let numbers = with_objects(n, tables);
     Turn { numbers, key, kept }
 }
 

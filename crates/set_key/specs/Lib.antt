@@ -1,2 +1,3 @@
--- The keys after an operation.
+-- The keys after an operation, and the law between the rules' keys and their bytes.
 pub mod Keys
+pub mod Laws

@@ -1,31 +1,21 @@
 // Operation 7: the drive's keys after it. The other operations leave them.
 ghost use mathlib.Core.Path.{_≡_};
-ghost use Rattle.keyring.specs.View.{keysOf};
-ghost use Rattle.set_key.specs.Keys.{keysPut};
+ghost use Rattle.set_key.specs.Keys.{keysAfter};
 use digest::mac;
-use keyring::Keys;
 use wire::Operation;
 
 // The keys after an operation under the key in a slot, as partition `p` has it; `signed` is the request and the seed.
-pub fn keys_after(keys: Keys, o: Operation, slot: u8, p: usize, key: &[u8], signed: &[u8]) -> Keys
-    ensures { λ r. ⌜ keysOf r ≡ keysPut o slot p (now (key .entry)) (now (signed .entry)) (keysOf keys) ⌝ }
+// Where that key was never set, nothing is written.
+pub fn apply(keys: &mut [u8], o: Operation, slot: u8, p: usize, signed: &[u8])
+    ensures { λ _. ⌜ now (keys .exit) ≡ keysAfter o slot p (now (signed .entry)) (now (keys .entry)) ⌝ }
 {
-    match o {
-        Operation::Read {
-            offset: _,
-            length: _,
-        } => keys,
-        Operation::Write {
-            offset: _,
-            length: _,
-        } => keys,
-        Operation::Look => keys,
-        Operation::Raise => keys,
-        Operation::Create { number: _, size: _ } => keys,
-        Operation::Delete => keys,
-        Operation::SetKey { target } => {
-            let new = mac::of(key, signed);
-            keyring::with_key(keys, slot, p, target as usize, new)
-        }
+    let Operation::SetKey { target } = o else {
+        return;
+    };
+    let j = keyring::place_of(slot, p);
+    if !keyring::is_set(&*keys, j) {
+        return;
     }
+    let new = mac::of(&keys[32 * j..32 * j + 32], signed);
+    keyring::put_key(keys, slot, p, target as usize, &new);
 }

@@ -1,3 +1,4 @@
 mod Clear
 mod Places
 mod Sound
+mod Table

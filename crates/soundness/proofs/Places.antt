@@ -1,7 +1,6 @@
 -- A test of sixteen places that lets those from n on pass is a test of the first n.
-use mathlib.Core.Path.{_≡_, refl, sym, ap, _∙_}
+use mathlib.Core.Path.{_≡_, refl, ap, _∙_}
 use mathlib.Core.Bool.{Bool, true, false, _&&_, _||_}
-use mathlib.Core.List.{List, [], _∷_}
 use Prim.Native.Nat.{ℕ, zero, suc, _+_, _≤_, _<_}
 use native.Mathlib.Nat.{not-suc-le-zero, le-of-suc-le-suc}
 use native.Mathlib.Decide.{decLe}
@@ -9,7 +8,8 @@ use native.Mathlib.Omega.{arith}
 use lib.Dec.{leb}
 use lib.ListN.{getD}
 use borrow.Author.Tests.{le-leb, lt-leb}
-use Rattle.soundness.specs.Spans.{each, from}
+use Rattle.state.specs.Table.{from}
+use Rattle.soundness.specs.Spans.{each}
 
 and-true : (a : Bool) → (a && true) ≡ a
 and-true true = refl
@@ -20,7 +20,7 @@ place-at a zero k h = absurd (not-suc-le-zero h)
 place-at a (suc n) zero h = omega arith
 place-at a (suc n) (suc k) h = let e : (a + 1) + k ≡ a + suc k = omega arith in place-at (a + 1) n k (le-of-suc-le-suc h) ∙ e
 
-place-is : (k : ℕ) → k < 16 → getD (from 0 16) k 0 ≡ k
+pub place-is : (k : ℕ) → k < 16 → getD (from 0 16) k 0 ≡ k
 place-is k h = let e : 0 + k ≡ k = omega arith in place-at 0 16 k h ∙ e
 
 module _ (t : ℕ → Bool) (n : ℕ) where

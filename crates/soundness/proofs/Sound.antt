@@ -22,9 +22,19 @@ and-none : (a : Bool) → (a && false) ≡ false
 and-none true = refl
 and-none false = refl
 
-and-assoc : (a b c : Bool) → (a && b && c) ≡ (a && (b && c))
+pub and-assoc : (a b c : Bool) → (a && b && c) ≡ (a && (b && c))
 and-assoc true b c = refl
 and-assoc false b c = refl
+
+-- a test of places that is one of a list's elements
+pub each-every : {A : Type 0} (t : ℕ → Bool) (p : A → Bool) (l : List A) (d : A) → ((i : ℕ) → t i ≡ p (getD l i d))
+    → (k : ℕ) → k ≤ length l → each t k ≡ every p (take k l)
+unfolding each every
+each-every t p l d same zero g = refl
+each-every t p l d same (suc k) g =
+    let more : every p (take (suc k) l) ≡ every p (take k l) && p (getD l k d) =
+    ap (λ (j : ℕ). every p (take j l)) (sym (add-one k)) ∙ every-take p l k d (omega arith) in
+    rw (each-every t p l d same k (omega arith), same k) (sym more)
 
 module _ (q last : ℕ) (small : q < 2 ^ 32) where
   -- an extent that is not empty and ends inside the quarter, by either sum
@@ -64,18 +74,9 @@ module _ (q last : ℕ) (small : q < 2 ^ 32) where
           nth-map Object.version l i noObject,
         ) (sound-one (getD l i noObject) (every-nth narrow l i noObject refl w))
 
-    up-to : (k : ℕ) → k ≤ length l → each test k ≡ every (soundObject q last) (take k l)
-    unfolding each every
-    up-to zero g = refl
-    up-to (suc k) g =
-        let t = soundObject q last in
-        let more : every t (take (suc k) l) ≡ every t (take k l) && t (getD l k noObject) =
-        ap (λ (j : ℕ). every t (take j l)) (sym (add-one k)) ∙ every-take t l k noObject (omega arith) in
-        rw (up-to k (omega arith), sound-at k) (sym more)
-
     -- what the loop over the first n finds
     pub sound-each : (numbers starts ends versions : List ℕ) (n : ℕ) → n ≤ length l
         → numbers ≡ map Object.number l → starts ≡ map Object.start l → ends ≡ map endOf l → versions ≡ map Object.version l
         → each (soundAt q last numbers starts ends versions) n ≡ every (soundObject q last) (take n l)
     unfolding test
-    sound-each numbers starts ends versions n h e f g k = rw (e, f, g, k) (up-to n h)
+    sound-each numbers starts ends versions n h e f g k = rw (e, f, g, k) (each-every test (soundObject q last) l noObject sound-at n h)

@@ -2,21 +2,34 @@
 -- `apart` (clear-pairs in proofs/Clear.antt).
 use mathlib.Core.Path.{_≡_, ap}
 use mathlib.Core.Bool.{Bool, true, false, not, _&&_, _||_}
-use mathlib.Core.List.{List, [], _∷_}
+use mathlib.Core.List.{List, map}
 use Prim.Native.Nat.{ℕ, zero, suc, _+_, _%_, _^_}
 use native.Mathlib.Numerals.{add-one}
 use lib.Dec.{leb}
 use lib.ListN.{getD}
 use Rattle.lemmas.specs.Tests.{_is_, _under_}
 use Rattle.rules.specs.declared.Object.{Object}
+use Rattle.state.specs.Table.{from}
 
 -- an extent's end, by a sum that wraps
 abbrev pub endOf : Object → ℕ
 endOf o = (o .start + o .size) % 2 ^ 32
 
--- a size of 32 bits, as every object of an array has
+-- a size of 32 bits, as every object of a table has
 abbrev pub narrow : Object → Bool
 narrow o = o .size under 2 ^ 32
+
+-- the same of place i of a list of sizes
+abbrev pub narrowAt : List ℕ → ℕ → Bool
+narrowAt sizes i = getD sizes i 0 under 2 ^ 32
+
+-- the end of the extent at place i of two lists: starts, sizes
+abbrev pub endAt : List ℕ → List ℕ → ℕ → ℕ
+endAt starts sizes i = (getD starts i 0 + getD sizes i 0) % 2 ^ 32
+
+-- the ends of all sixteen
+unfoldable pub endsOf : List ℕ → List ℕ → List ℕ
+endsOf starts sizes = map (endAt starts sizes) (from 0 16)
 
 -- an object's soundness by the end of its extent; of a narrow one that is the rules' `soundObject` (sound-each in
 -- proofs/Sound.antt)
@@ -58,8 +71,3 @@ each t (suc k) = each t k && t k
 pub each-more : (t : ℕ → Bool) (k : ℕ) → each t (k + 1) ≡ each t k && t k
 unfolding each
 each-more t k = ap (each t) (add-one k)
-
--- the n numbers from a on
-abbrev pub from : ℕ → ℕ → List ℕ
-from a zero = []
-from a (suc n) = a ∷ from (a + 1) n

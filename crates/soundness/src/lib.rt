@@ -1,27 +1,14 @@
-// Row 1 of one partition's objects: each is sound, and every two are apart.
+// Row 1 of one partition's table: each object is sound, and every two are apart.
 ghost use mathlib.Core.Path.{_≡_};
 ghost use mathlib.Core.Bool.{true, _&&_};
-ghost use mathlib.Core.List.{map};
-ghost use Prim.Native.Nat.{_≤_, _<_};
-ghost use lib.ListN.{length};
-ghost use Rattle.lemmas.specs.Lists.{every, pairs};
-ghost use Rattle.rules.specs.declared.Object.{Object};
-ghost use Rattle.rules.specs.Drive.{soundObject, apart};
-ghost use Rattle.state.specs.Objects.{listed};
-ghost use Rattle.soundness.specs.Spans.{endOf, narrow, soundSpan, soundAt, clearAt, each};
+ghost use Prim.Native.Nat.{_≤_, _<_, _+_, _%_, _^_};
+ghost use lib.ListN.{length, getD};
+ghost use Rattle.lemmas.specs.Tests.{_is_};
+ghost use Rattle.rules.specs.Drive.{mostObjects, soundPartition};
+ghost use Rattle.state.specs.Table.{tableSize, viewed};
+ghost use Rattle.soundness.specs.Spans.{endsOf, narrowAt, soundSpan, soundAt, clearAt, each};
 use lemmas::within;
-use rules::Object;
-use state::Objects;
 use std::num::wrapping_add_u32;
-
-// The objects' numbers and versions, and where each extent starts and ends, in arrays of their own: so a compiler tests
-// several objects at a time. An end may wrap, but not that of a sound object.
-struct Spans {
-    numbers: [u32; 16],
-    starts: [u32; 16],
-    ends: [u32; 16],
-    versions: [u32; 16],
-}
 
 // A number from 1, a nonempty extent inside the quarter, a version not over the last given. An end that wrapped does not
 // stand over its start.
@@ -31,32 +18,23 @@ fn is_sound(number: u32, start: u32, end: u32, version: u32, quarter: u32, last:
     (1 <= number) & (start < end) & (end <= quarter) & (version <= last)
 }
 
-// Where an extent ends. The contract tells of the size, too, what is known of a parameter's field and not of an element's.
-fn end_of(o: Object) -> u32
-    ensures { λ r. ⌜ (r ≡ endOf o) × (narrow o ≡ true) ⌝ }
+// Where an extent ends. The contract tells of the size, too, what is known of a parameter.
+fn end_of(start: u32, size: u32) -> u32
+    ensures { λ r. ⌜ (r ≡ (start + size) % 2 ^ 32) × (size < 2 ^ 32) ⌝ }
 {
-    wrapping_add_u32(o.start, o.size)
+    wrapping_add_u32(start, size)
 }
 
-// The spans of every object that the array has room for.
-fn spans_of(os: Objects) -> Spans
-    ensures { λ r. ⌜ (r .numbers ≡ map Object.number (os .items)) × (r .starts ≡ map Object.start (os .items)) × (r .ends ≡ map endOf (os .items))
-        × (r .versions ≡ map Object.version (os .items)) × (every narrow (os .items) ≡ true) ⌝ }
+// Where each extent ends; a sum may wrap, but not that of a sound object.
+fn ends_of(starts: &[u32], sizes: &[u32]) -> [u32; 16]
+    requires { ⌜ (length (now starts) ≡ 16) × (length (now sizes) ≡ 16) ⌝ }
+    ensures { λ r. ⌜ (r ≡ endsOf (now (starts .entry)) (now (sizes .entry)))
+        × (each (narrowAt (now (sizes .entry))) 16 ≡ true) ⌝ }
 {
-    let zeros = [0u32; 16];
-    let mut r = Spans {
-        numbers: zeros,
-        starts: zeros,
-        ends: zeros,
-        versions: zeros,
-    };
+    let mut r = [0u32; 16];
     let mut i = 0;
     while i < 16 {
-        let o = os.items[i];
-        r.numbers[i] = o.number;
-        r.starts[i] = o.start;
-        r.ends[i] = end_of(o);
-        r.versions[i] = o.version;
+        r[i] = end_of(starts[i], sizes[i]);
         i += 1;
     }
     r
@@ -64,10 +42,10 @@ fn spans_of(os: Objects) -> Spans
 
 // Whether each of the first n is sound.
 fn all_sound(
-    numbers: &[u32; 16],
-    starts: &[u32; 16],
-    ends: &[u32; 16],
-    versions: &[u32; 16],
+    numbers: &[u32],
+    starts: &[u32],
+    ends: &[u32],
+    versions: &[u32],
     n: usize,
     quarter: u32,
     last: u32,
@@ -86,7 +64,7 @@ fn all_sound(
 
 // Whether object n shares neither a number nor a byte with one before it. The loop goes over all sixteen places, and not
 // to n: a loop of fixed length without a branch is what a compiler tests several objects at a time in.
-fn is_clear(numbers: &[u32; 16], starts: &[u32; 16], ends: &[u32; 16], n: usize) -> bool
+fn is_clear(numbers: &[u32], starts: &[u32], ends: &[u32], n: usize) -> bool
     requires { ⌜ (n < 16) × (length (now numbers) ≡ 16) × (length (now starts) ≡ 16) × (length (now ends) ≡ 16) ⌝ }
     ensures { λ r. ⌜ r ≡ clearAt (now (numbers .entry)) (now (starts .entry)) (now (ends .entry)) n ⌝ }
 {
@@ -105,7 +83,7 @@ fn is_clear(numbers: &[u32; 16], starts: &[u32; 16], ends: &[u32; 16], n: usize)
 // Whether no two of the first n clash. The loop goes to n rounded up to a multiple of eight, and an object from n on counts
 // as clear: so none is left over that a compiler tests alone. Its place is read from an array: with the bare i in that test,
 // the loop was measured to be twice as slow.
-fn all_clear(numbers: &[u32; 16], starts: &[u32; 16], ends: &[u32; 16], n: usize) -> bool
+fn all_clear(numbers: &[u32], starts: &[u32], ends: &[u32], n: usize) -> bool
     requires { ⌜ (n ≤ 16) × (length (now numbers) ≡ 16) × (length (now starts) ≡ 16) × (length (now ends) ≡ 16) ⌝ }
     ensures { λ r. ⌜ r ≡ each (clearAt (now (numbers .entry)) (now (starts .entry)) (now (ends .entry))) n ⌝ }
 {
@@ -121,16 +99,26 @@ fn all_clear(numbers: &[u32; 16], starts: &[u32; 16], ends: &[u32; 16], n: usize
     free
 }
 
-// Whether a partition's objects are sound.
-pub fn sound_objects(os: Objects, quarter: u32, last: u32) -> bool
-    ensures { λ r. ⌜ r ≡ (every (soundObject quarter last) (listed os) && pairs apart (listed os)) ⌝ }
+// Whether a list is a table, and its partition is sound.
+pub fn sound_table(table: &[u32], quarter: u32) -> bool
+    ensures { λ r. ⌜ (r ≡ (length (now (table .entry)) is tableSize && soundPartition quarter (viewed (now (table .entry)))))
+        × (r ≡ true → getD (now (table .entry)) 2 0 ≤ mostObjects) ⌝ }
 {
-    let n = within(os.count, 16);
-    let s = spans_of(os);
-    let numbers = s.numbers;
-    let starts = s.starts;
-    let ends = s.ends;
-    let versions = s.versions;
-    let free = all_clear(&numbers, &starts, &ends, n);
-    all_sound(&numbers, &starts, &ends, &versions, n, quarter, last) & free
+    if table.len() != 67 {
+        return false;
+    }
+    let n = within(table[2] as usize, 16);
+    let ends = ends_of(&table[51..67], &table[35..51]);
+    let free = all_clear(&table[3..19], &table[51..67], &ends, n);
+    (table[2] <= 16)
+        & all_sound(
+            &table[3..19],
+            &table[51..67],
+            &ends,
+            &table[19..35],
+            n,
+            quarter,
+            table[1],
+        )
+        & free
 }

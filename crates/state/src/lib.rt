@@ -1,120 +1,160 @@
-// A partition's objects (document 01, "Drive state"): an array with a count. Everything is total: a count over the array's
-// length is taken for that length.
+// A partition's table (document 01, "Drive state"): 67 numbers lent. Its version, the last version given, how many
+// objects there are; then, sixteen of each, the objects' numbers, versions, sizes and starts, in order of creation.
+// Everything is total: a list of another length holds no object and is never changed, and a count over sixteen is taken
+// for sixteen.
 ghost use mathlib.Core.Path.{_≡_};
-ghost use mathlib.Core.Bool.{cond};
-ghost use mathlib.Core.List.{[], _∷_, _++_};
-ghost use Prim.Native.Nat.{_≤_};
-ghost use lib.ListN.{length};
-ghost use Rattle.lemmas.specs.Tests.{_under_, _is_, _isnt_};
-ghost use Rattle.lemmas.specs.Lists.{keep, find, change};
+ghost use Prim.Native.Nat.{_≤_, _<_};
+ghost use lib.ListN.{length, getD};
+ghost use Rattle.lemmas.specs.Lists.{change};
 ghost use Rattle.rules.specs.declared.Object.{Object};
 ghost use Rattle.rules.specs.Drive.{mostObjects};
-ghost use Rattle.rules.specs.Operations.{withVersion};
-ghost use Rattle.state.specs.Objects.{listed, told};
+ghost use Rattle.rules.specs.Operations.{noObject, withVersion};
+ghost use Rattle.state.specs.Table.{tableSize, heldIn, targetIn};
+ghost use Rattle.state.specs.Changes.{Became, Changed, frontedIn, storedIn, raisedIn, joinedIn, removedIn};
 use lemmas::within;
 use rules::Object;
 
-// A partition's objects in order of creation.
-pub struct Objects {
-    pub items: [Object; 16],
-    pub count: usize,
-}
-
-// The object that a number names, or none.
-pub enum Found {
-    At(Object),
-    Nothing,
+// What a number names: whether nothing, and the object, all zeros where nothing.
+pub struct Target {
+    pub missing: bool,
+    pub object: Object,
 }
 
 // How many objects there are.
-pub fn object_count(os: Objects) -> usize
-    ensures { λ r. ⌜ (r ≡ length (listed os)) × (r ≤ mostObjects) ⌝ }
+pub fn object_count(table: &[u32]) -> usize
+    ensures { λ r. ⌜ (r ≡ length (heldIn (now (table .entry)))) × (r ≤ mostObjects) ⌝ }
 {
-    within(os.count, 16)
+    if table.len() != 67 {
+        return 0;
+    }
+    within(table[2] as usize, 16)
+}
+
+// The object at a place; past the last, all zeros.
+pub fn object_at(table: &[u32], i: usize) -> Object
+    ensures { λ r. ⌜ r ≡ getD (heldIn (now (table .entry))) i noObject ⌝ }
+{
+    if object_count(table) <= i {
+        return Object {
+            number: 0,
+            version: 0,
+            size: 0,
+            start: 0,
+        };
+    }
+    Object {
+        number: table[3 + i],
+        version: table[19 + i],
+        size: table[35 + i],
+        start: table[51 + i],
+    }
 }
 
 // The object with a number.
-pub fn lookup(os: Objects, number: u32) -> Found
-    ensures { λ r. ⌜ told r ≡ find Object.number number (listed os) ⌝ }
+pub fn named(table: &[u32], number: u32) -> Target
+    ensures { λ r. ⌜ r ≡ targetIn (heldIn (now (table .entry))) number ⌝ }
 {
-    let n = within(os.count, 16);
+    let n = object_count(table);
     let mut i = 0;
     while i < n {
-        let x = os.items[i];
-        if x.number == number {
-            return Found::At(x);
+        if table[3 + i] == number {
+            return Target {
+                missing: false,
+                object: object_at(table, i),
+            };
         }
         i += 1;
     }
-    Found::Nothing
-}
-
-// The objects with one more, where there is room.
-pub fn join(os: Objects, o: Object) -> Objects
-    ensures { λ r. ⌜ (listed r ≡
-        cond (length (listed os) under mostObjects) (listed os ++ (o ∷ [])) (listed os))
-        × (r .count ≤ mostObjects) ⌝ }
-{
-    let n = os.count;
-    let mut r = os;
-    if n < 16 {
-        r.items[n] = o;
-        r.count = n + 1;
-        return r;
+    let nothing = Object {
+        number: 0,
+        version: 0,
+        size: 0,
+        start: 0,
+    };
+    Target {
+        missing: true,
+        object: nothing,
     }
-    r.count = 16;
-    r
 }
 
-// The objects without the one of a number.
-pub fn remove(os: Objects, number: u32) -> Objects
-    ensures { λ r. ⌜ (listed r ≡ keep (λ (a : Object). a .number isnt number) (listed os))
-        × (r .count ≤ mostObjects) ⌝ }
+// Stores an object at a place.
+fn put(table: &mut [u32], i: usize, o: Object)
+    requires { ⌜ (length (now table) ≡ tableSize) × (i < 16) ⌝ }
+    ensures { λ _. ⌜ Became (now (table .entry)) (now (table .exit)) (storedIn i o (now (table .entry))) ⌝ }
 {
-    let n = within(os.count, 16);
-    let mut r = os;
+    table[3 + i] = o.number;
+    table[19 + i] = o.version;
+    table[35 + i] = o.size;
+    table[51 + i] = o.start;
+}
+
+// Gives each object of a number a version.
+fn renew(table: &mut [u32], number: u32, version: u32)
+    requires { ⌜ length (now table) ≡ tableSize ⌝ }
+    ensures { λ _. ⌜ Became (now (table .entry)) (now (table .exit))
+        (frontedIn (change Object.number number (withVersion version) (heldIn (now (table .entry))))
+        (now (table .entry))) ⌝ }
+{
+    let n = object_count(&*table);
+    let mut i = 0;
+    while i < n {
+        let at = i;
+        i += 1;
+        if table[3 + at] == number {
+            table[19 + at] = version;
+        }
+    }
+}
+
+// Operation 4: the object, or for number 0 the partition, has a new version, now the last given.
+pub fn raise(table: &mut [u32], number: u32, version: u32)
+    ensures { λ _. ⌜ Changed (now (table .entry)) (now (table .exit)) (raisedIn number version (now (table .entry))) ⌝ }
+{
+    if table.len() != 67 {
+        return;
+    }
+    table[1] = version;
+    if number == 0 {
+        table[0] = version;
+        return;
+    }
+    renew(table, number, version);
+}
+
+// Operation 5: one object more, where there is room; its version is now the last given.
+pub fn join(table: &mut [u32], o: Object)
+    ensures { λ _. ⌜ Changed (now (table .entry)) (now (table .exit)) (joinedIn o (now (table .entry))) ⌝ }
+{
+    if table.len() != 67 {
+        return;
+    }
+    let n = table[2] as usize;
+    table[1] = o.version;
+    if 16 <= n {
+        return;
+    }
+    put(table, n, o);
+    table[2] = (n + 1) as u32;
+}
+
+// Operation 6: the object goes. The others move to the front, in their order, and are counted; what stands from there
+// on stays.
+pub fn remove(table: &mut [u32], number: u32)
+    ensures { λ _. ⌜ Changed (now (table .entry)) (now (table .exit)) (removedIn number (now (table .entry))) ⌝ }
+{
+    if table.len() != 67 {
+        return;
+    }
+    let n = object_count(&*table);
     let mut left = 0;
     let mut i = 0;
     while i < n {
-        let o = os.items[i];
+        let o = object_at(&*table, i);
         i += 1;
         if o.number != number {
-            r.items[left] = o;
+            put(table, left, o);
             left += 1;
         }
     }
-    r.count = left;
-    r
-}
-
-// An object, with another version where it has the number.
-fn renewed(o: Object, number: u32, version: u32) -> Object
-    ensures { λ r. ⌜ r ≡ cond (o .number is number) (withVersion version o) o ⌝ }
-{
-    if o.number == number {
-        return Object {
-            number: o.number,
-            version: version,
-            size: o.size,
-            start: o.start,
-        };
-    }
-    o
-}
-
-// The objects, that of a number with another version.
-pub fn renew(os: Objects, number: u32, version: u32) -> Objects
-    ensures { λ r. ⌜ (listed r ≡ change Object.number number (withVersion version) (listed os))
-        × (r .count ≤ mostObjects) ⌝ }
-{
-    let n = within(os.count, 16);
-    let mut r = os;
-    let mut i = 0;
-    while i < n {
-        let o = os.items[i];
-        r.items[i] = renewed(o, number, version);
-        i += 1;
-    }
-    r.count = n;
-    r
+    table[2] = left as u32;
 }

@@ -11,6 +11,8 @@ use Rattle.lemmas.specs.Lists.{every}
 use Rattle.lemmas.specs.Rows.{firstRow, applies, none-applies}
 use Rattle.lemmas.specs.Tests.{_isnt_, or-l, or-r}
 use Rattle.rules.specs.Drive.{Formatted, format, formatRows, newDrive, newTables, noDrive}
+use Rattle.keyring.specs.Keys.{keysIn}
+use Rattle.keyring.specs.Laws.{keys-none, fresh-set}
 use borrow.Author.Needs.{needs}
 use Rattle.drive.proofs.format.Statement.{statement}
 use Rattle.drive.proofs.format.Tie as tie
@@ -40,42 +42,32 @@ module _ (m : List ℕ) (F : ℕ) (master key : List ℕ) where
 returns : tie.Need-returns
 unfolding formatRows
 returns c =
-    let a = c .before .before .before .before .before .before .before .args in
-    let row = c .before .before .before .format-row in
-    let e = refused (a .medium .now) (a .first) (a .master .now) (a .key .now) (row .result) (row .ensures) (c .before .before .if1 .taken) in
+    let a = c .before .before .before .before .before .before .args in
+    let row = c .before .before .format-row in
+    let e = refused (a .medium .now) (a .first) (a .master .now) (a .key .now) (row .result) (row .ensures) (c .before .if1 .taken) in
     record {
       row = ap (λ (x : Formatted). x .row) (sym e);
-      drive = (rw (c .before .no-key .ensures .0) at (c .new-drive .ensures)) ∙ ap (λ (x : Formatted). x .drive) (sym e);
+      drive = (rw keys-none at (c .new-drive .ensures)) ∙ ap (λ (x : Formatted). x .drive) (sym e);
       medium = ap (λ (x : Formatted). x .medium) (sym e);
     }
-
-key-of-requires : tie.Need-key-of-requires
-unfolding formatRows
-key-of-requires c κs =
-    let a = c .before .before .before .before .before .args in
-    lent (a .medium .now) (a .first) (a .master .now) (a .key .now) (sym (c .if1 .left) ∙ c .before .format-row .ensures) .0
-
-key-of-requires-2 : tie.Need-key-of-requires-2
-unfolding formatRows
-key-of-requires-2 c κs =
-    let a = c .before .before .before .before .before .before .args in
-    lent (a .medium .now) (a .first) (a .master .now) (a .key .now) (sym (c .before .if1 .left) ∙ c .before .before .format-row .ensures) .1
 
 returns-2 : tie.Need-returns-2
 unfolding formatRows
 returns-2 c =
-    let a = c .before .before .before .before .before .before .before .before .before .before .before .before .args in
-    let e = made (a .medium .now) (a .first) (a .master .now) (a .key .now) (sym (c .before .before .before .before .before .before .before .if1 .left) ∙ c .before .before .before .before .before .before .before .before .format-row .ensures) in
+    let a = c .before .before .before .before .before .before .before .before .before .before .before .args in
+    let zero = sym (c .before .before .before .before .before .before .if1 .left) ∙ c .before .before .before .before .before .before .before .format-row .ensures in
+    let e = made (a .medium .now) (a .first) (a .master .now) (a .key .now) zero in
+    let long = lent (a .medium .now) (a .first) (a .master .now) (a .key .now) zero in
+    let keys = ap keysIn (c .before .new-keys .ensures) ∙ fresh-set (a .master .now) (a .key .now) (long .0) (long .1) in
     record {
       row = ap (λ (x : Formatted). x .row) (sym e);
-      drive = (rw (c .before .before .before .before .before .key-of2 .ensures, c .before .before .before .before .before .before .key-of .ensures) at (c .new-drive2 .ensures))
-          ∙ ap (λ (x : Formatted). x .drive) (sym e);
-      medium = c .before .before .before .clear-all .ensures ∙ ap (λ (x : Formatted). x .medium) (sym e);
+      drive = (rw keys at (c .new-drive2 .ensures)) ∙ ap (λ (x : Formatted). x .drive) (sym e);
+      medium = c .before .before .before .before .clear-all .ensures ∙ ap (λ (x : Formatted). x .medium) (sym e);
     }
 
 pub format-spec : {M : Type 1} → statement M
 format-spec =
     tie.close
     (tie.spec
-    (λ c κs. search needs) (λ c κs. search needs) (λ c κs. search needs) returns key-of-requires key-of-requires-2
-    (λ c κs. search needs) (λ c κs. search needs) (λ c. search needs) returns-2)
+    (λ c κs. search needs) (λ c κs. search needs) returns (λ c κs. search needs) (λ c κs. search needs) (λ c κs. search needs)
+    (λ c. search needs) returns-2)

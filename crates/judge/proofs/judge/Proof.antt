@@ -1,21 +1,22 @@
 use Rattle.lemmas.specs.Rows.{firstRow}
 use Rattle.wire.specs.Parse.{requestTold}
-use Rattle.partition.specs.Partition.{partitionOf, targetOf}
+use Rattle.state.specs.Table.{partitionIn, targetIn}
 use Rattle.judge.specs.Judge.{judgeRows}
 use borrow.Author.Needs.{needs}
 use Rattle.judge.proofs.judge.Statement.{statement}
 use Rattle.judge.proofs.judge.Tie as tie
 
 returns : tie.Need-returns
-unfolding firstRow judgeRows requestTold partitionOf targetOf
+unfolding firstRow judgeRows requestTold partitionIn targetIn
 returns c =
     rw (
       c .time-row .ensures,
       c .before .object-row .ensures,
       c .before .before .room-row .ensures,
       c .before .before .before .present .ensures,
-      c .before .before .before .before .named .ensures,
-      c .before .before .before .before .before .numbers .ensures,
+      c .before .before .before .before .number-at .ensures,
+      c .before .before .before .before .before .named .ensures,
+      c .before .before .before .before .before .before .numbers .ensures,
     )
 
 pub judge-spec : {M : Type 1} → statement M
@@ -23,4 +24,4 @@ judge-spec =
     tie.close
     (tie.spec
     (λ c κs. search needs) (λ c κs. search needs) (λ c κs. search needs) (λ c κs. search needs)
-    (λ c κs. search needs) (λ c κs. search needs) returns)
+    (λ c κs. search needs) (λ c κs. search needs) (λ c κs. search needs) returns)

@@ -6,10 +6,10 @@ use Rattle.judge.proofs.place_for.Statement.{statement}
 use Rattle.judge.proofs.place_for.Tie as tie
 
 returns : tie.Need-returns
-returns c = rw (ne-eqb (c .before .before .args .r .operation) 5 (c .if1 .taken))
+returns c = rw (ne-eqb (c .before .before .before .args .r .operation) 5 (c .if1 .taken))
 
 returns-2 : tie.Need-returns-2
-returns-2 c = rw (eq-eqb (c .before .before .before .args .r .operation) 5 (c .before .if1 .left), c .best-fit .ensures)
+returns-2 c = rw (eq-eqb (c .before .before .before .before .args .r .operation) 5 (c .before .if1 .left), c .best-fit .ensures)
 
 pub place-for-spec : {M : Type 1} → statement M
 place-for-spec =

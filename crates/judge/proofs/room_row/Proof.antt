@@ -1,10 +1,10 @@
-use Rattle.partition.specs.Partition.{partitionOf, targetOf}
+use Rattle.state.specs.Table.{partitionIn, targetIn}
 use borrow.Author.Needs.{needs}
 use Rattle.judge.proofs.room_row.Statement.{statement}
 use Rattle.judge.proofs.room_row.Tie as tie
 
 returns : tie.Need-returns
-unfolding partitionOf targetOf
+unfolding partitionIn targetIn
 returns c =
     rw (
       c .pick6 .ensures,
@@ -13,9 +13,10 @@ returns c =
       c .before .before .before .before .pick4 .ensures,
       c .before .before .before .before .before .is-nowhere .ensures,
       c .before .before .before .before .before .before .pick3 .ensures,
-      c .before .before .before .before .before .before .before .before .pick2 .ensures,
-      c .before .before .before .before .before .before .before .before .before .pick .ensures,
-      c .before .before .before .before .before .before .before .before .before .before .reply-length .ensures,
+      c .before .before .before .before .before .before .before .pick2 .ensures,
+      c .before .before .before .before .before .before .before .before .pick .ensures,
+      c .before .before .before .before .before .before .before .before .before .reply-length .ensures,
+      c .before .before .before .before .before .before .before .before .before .before .before .before .before .number-at .ensures,
       c .before .before .before .before .before .before .before .before .before .before .before .before .before .before .named .ensures,
     )
 
@@ -25,4 +26,4 @@ room-row-spec =
     (tie.spec
     (λ c κs. search needs) (λ c κs. search needs) (λ c κs. search needs) (λ c κs. search needs)
     (λ c κs. search needs) (λ c κs. search needs) (λ c κs. search needs) (λ c κs. search needs)
-    (λ c κs. search needs) (λ c κs. search needs) returns)
+    (λ c κs. search needs) (λ c κs. search needs) (λ c κs. search needs) returns)

@@ -3,29 +3,30 @@ use mathlib.Core.Path.{_≡_, refl}
 use Prim.Native.Nat.{_-_, _^_, _≤_, _<_}
 use native.Mathlib.Omega.{arith}
 use lib.ListN.{length, take}
+use lib.Seq.{take-all}
 use borrow.Author.Needs.{needs}
-use Rattle.lemmas.specs.Loops.{unmapped, take-within, length-within, fold, fold-take}
+use Rattle.lemmas.specs.Loops.{fold, fold-take}
 use Rattle.rules.specs.declared.Object.{Object}
 use Rattle.rules.specs.Operations.{noObject}
 use Rattle.rules.specs.BestFit.{spot}
-use Rattle.state.specs.Objects.{listed}
+use Rattle.state.specs.Table.{heldIn}
 use Rattle.placing.specs.Placing.{gapOf, held, tried, endOf, chosen, spot-nothing}
 use Rattle.placing.proofs.best_gap.Statement.{statement}
 use Rattle.placing.proofs.best_gap.Tie as tie
 
 abbrev Inv-loop : tie.InvT-loop
-Inv-loop step quarter size os n best₀ i₀ best i =
+Inv-loop step quarter size table n best₀ i₀ best i =
     (i ≤ n)
     × (best .from ≤ 2 ^ 33)
     × (spot step (gapOf best) ≤ quarter)
-    × (held best ≡ fold (λ b (x : Object). tried step quarter (listed os) size b (endOf x)) (held best₀) (take i (os .items)))
+    × (held best ≡ fold (λ b (x : Object). tried step quarter (heldIn table) size b (endOf x)) (held best₀) (take i (heldIn table)))
 
 abbrev μ-loop : tie.MeasureT-loop
-μ-loop step quarter size os n best₀ i₀ best i = n - i
+μ-loop step quarter size table n best₀ i₀ best i = n - i
 
 better-of-requires : tie.Need-better-of-requires Inv-loop μ-loop
 better-of-requires c κs =
-    let a = c .before .args in
+    let a = c .before .before .args in
     (search needs, search needs, rw (spot-nothing (a .step) 0) (omega arith))
 
 loop-holds : tie.Need-loop-holds Inv-loop μ-loop
@@ -39,26 +40,27 @@ better-of-requires-2 c κs =
 loop-again : tie.Need-loop-again Inv-loop μ-loop
 loop-again c =
     let l = c .before .before .before .before .before .loop in
-    let a = c .before .before .before .before .before .before .before .before .args in
-    let long : length (a .t4 .items) ≡ 16 = search (needs, unmapped) in
-    let h : l .i < length (a .t4 .items) = omega arith in
-    let b = c .before .before .before .before .before .before .better-of .result in
-    let turn = fold-take (λ b (x : Object). tried (a .step) (a .quarter) (listed (a .t4)) (a .size) b (endOf x)) (held b) (a .t4 .items) (l .i) noObject h in
-    (search needs, c .better-of2 .ensures .1, c .better-of2 .ensures .2, rw (turn, ← l .inv .3) (c .better-of2 .ensures .0))
+    let s = c .before .before .before .before .before .before in
+    let a = s .before .before .before .args in
+    let os = heldIn (a .table .now) in
+    let n = s .before .object-count .ensures .0 in
+    let h : l .i < length os = omega arith in
+    let turn = fold-take (λ b (x : Object). tried (a .step) (a .quarter) os (a .size) b (endOf x)) (held (s .better-of .result)) os (l .i) noObject h in
+    let o = c .before .before .before .object-at .ensures in
+    (search needs, c .better-of2 .ensures .1, c .better-of2 .ensures .2, rw (turn, ← o, ← l .inv .3) (c .better-of2 .ensures .0))
 
 returns : tie.Need-returns Inv-loop μ-loop
 unfolding chosen
 returns c =
     let l = c .before .loop in
-    let a = c .before .before .before .before .args in
-    let long : length (a .t4 .items) ≡ 16 = search (needs, unmapped) in
-    let n = length-within (a .t4 .count) 16 (a .t4 .items) long in
-    let all = take-within (a .t4 .count) 16 (a .t4 .items) long (l .i) (omega (arith, n, c .before .before .before .object-count .ensures .0)) in
+    let a = c .before .before .before .before .before .args in
+    let n = c .before .before .before .object-count .ensures .0 in
+    let all = take-all (l .i) (heldIn (a .table .now)) (omega arith) in
     (rw (l .inv .3, all, c .before .before .better-of .ensures .0), l .inv .1, l .inv .2)
 
 pub best-gap-spec : {M : Type 1} → statement M
 best-gap-spec =
     tie.close
     (tie.spec
-    Inv-loop μ-loop (λ c κs. search needs) better-of-requires loop-holds (λ c. search needs) (λ c. search needs) (λ c. search needs) (λ c. search needs)
+    Inv-loop μ-loop (λ c κs. search needs) better-of-requires loop-holds (λ c κs. search needs) (λ c. search needs) (λ c. search needs)
     (λ c. search needs) better-of-requires-2 (λ c. search needs) (λ c. search needs) loop-again returns)

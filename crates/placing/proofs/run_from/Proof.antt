@@ -4,24 +4,26 @@ use mathlib.Core.Bool.{_||_}
 use Prim.Native.Nat.{_+_, _-_, _≤_, _<_}
 use native.Mathlib.Omega.{arith}
 use lib.ListN.{length, take}
+use lib.Seq.{take-all}
 use lib.Dec.{leb}
 use borrow.Author.Needs.{needs}
 use Rattle.lemmas.specs.Lists.{every}
 use Rattle.lemmas.specs.Tests.{_under_}
-use Rattle.lemmas.specs.Loops.{unmapped, take-within, length-within, every-take}
+use Rattle.lemmas.specs.Loops.{every-take}
 use Rattle.rules.specs.declared.Object.{Object}
 use Rattle.rules.specs.Operations.{noObject}
 use Rattle.rules.specs.BestFit.{free, next}
+use Rattle.state.specs.Table.{heldIn}
 use Rattle.placing.specs.Placing.{runFrom, next-take}
 use Rattle.placing.proofs.run_from.Statement.{statement}
 use Rattle.placing.proofs.run_from.Tie as tie
 
 abbrev Inv-loop : tie.InvT-loop
-Inv-loop quarter from os n vacant₀ to₀ i₀ vacant to i =
-    (i ≤ n) × (vacant ≡ free (take i (os .items)) from) × (to ≡ next quarter (take i (os .items)) from)
+Inv-loop table quarter from n vacant₀ to₀ i₀ vacant to i =
+    (i ≤ n) × (vacant ≡ free (take i (heldIn table)) from) × (to ≡ next quarter (take i (heldIn table)) from)
 
 abbrev μ-loop : tie.MeasureT-loop
-μ-loop quarter from os n vacant₀ to₀ i₀ vacant to i = n - i
+μ-loop table quarter from n vacant₀ to₀ i₀ vacant to i = n - i
 
 loop-holds : tie.Need-loop-holds Inv-loop μ-loop
 unfolding free every next
@@ -31,27 +33,27 @@ loop-again : tie.Need-loop-again Inv-loop μ-loop
 unfolding free
 loop-again c =
     let l = c .before .before .before .before .before .loop in
-    let a = c .before .before .before .before .before .before .before .args in
-    let long : length (a .t1 .items) ≡ 16 = search (needs, unmapped) in
-    let h : l .i < length (a .t1 .items) = omega arith in (
+    let a = c .before .before .before .before .before .before .before .before .args in
+    let os = heldIn (a .table .now) in
+    let o = c .before .before .before .object-at .ensures in
+    let n = c .before .before .before .before .before .before .object-count .ensures .0 in
+    let h : l .i < length os = omega arith in (
       search needs,
-      rw (every-take (λ (x : Object). a .from under x .start || leb (x .start + x .size) (a .from)) (a .t1 .items) (l .i) noObject h, l .inv .1, c .before .before .is-outside .ensures),
-      rw (next-take (a .quarter) (a .t1 .items) (a .from) (l .i) noObject h, ← l .inv .2) (c .nearest .ensures),
+      rw (every-take (λ (x : Object). a .from under x .start || leb (x .start + x .size) (a .from)) os (l .i) noObject h, ← o, l .inv .1, c .before .before .is-outside .ensures),
+      rw (next-take (a .quarter) os (a .from) (l .i) noObject h, ← o, ← l .inv .2) (c .nearest .ensures),
     )
 
 returns : tie.Need-returns Inv-loop μ-loop
 unfolding runFrom
 returns c =
     let l = c .before .loop in
-    let a = c .before .before .before .args in
-    let long : length (a .t1 .items) ≡ 16 = search (needs, unmapped) in
-    let n = length-within (a .t1 .count) 16 (a .t1 .items) long in
-    let all = take-within (a .t1 .count) 16 (a .t1 .items) long (l .i) (omega (arith, n, c .before .before .object-count .ensures .0)) in
-    rw (l .inv .1, l .inv .2, all)
+    let a = c .before .before .before .before .args in
+    let n = c .before .before .object-count .ensures .0 in
+    rw (l .inv .1, l .inv .2, take-all (l .i) (heldIn (a .table .now)) (omega arith))
 
 pub run-from-spec : {M : Type 1} → statement M
 run-from-spec =
     tie.close
     (tie.spec
-    Inv-loop μ-loop (λ c κs. search needs) loop-holds (λ c. search needs) (λ c. search needs) (λ c κs. search needs) (λ c. search needs)
-    (λ c κs. search needs) (λ c. search needs) (λ c. search needs) loop-again returns)
+    Inv-loop μ-loop (λ c κs. search needs) loop-holds (λ c κs. search needs) (λ c κs. search needs) (λ c. search needs) (λ c κs. search needs)
+    (λ c. search needs) (λ c. search needs) loop-again returns)

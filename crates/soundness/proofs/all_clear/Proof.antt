@@ -25,14 +25,14 @@ loop-holds c = (search needs, refl)
 loop-again : tie.Need-loop-again Inv-loop μ-loop
 loop-again c =
     let l = c .before .before .loop in
-    let a = c .before .before .before .args in
+    let a = c .before .before .before .before .before .before .args in
     let t = clearAt (a .numbers .now) (a .starts .now) (a .ends .now) in
     (search needs, rw (each-more (passed t (a .n)) (l .i), l .inv .1, c .is-clear .ensures))
 
 returns : tie.Need-returns Inv-loop μ-loop
 returns c =
     let l = c .before .loop in
-    let a = c .before .before .args in
+    let a = c .before .before .before .before .before .args in
     l .inv .1 ∙ each-first (clearAt (a .numbers .now) (a .starts .now) (a .ends .now)) (a .n) (l .i) (omega arith) (omega arith)
 
 pub all-clear-spec : {M : Type 1} → statement M

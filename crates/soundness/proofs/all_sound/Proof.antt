@@ -1,5 +1,5 @@
 -- r tells of the places under i (each-more).
-use mathlib.Core.Path.{_≡_, refl, ap, _∙_}
+use mathlib.Core.Path.{_≡_, refl}
 use Prim.Native.Nat.{_-_, _≤_}
 use native.Mathlib.Omega.{arith}
 use borrow.Author.Needs.{needs}
@@ -21,14 +21,14 @@ loop-holds c = (search needs, refl)
 loop-again : tie.Need-loop-again Inv-loop μ-loop
 loop-again c =
     let l = c .before .before .before .before .before .before .loop in
-    let a = c .before .before .before .before .before .before .before .args in
+    let a = c .before .before .before .before .before .before .before .before .before .before .before .args in
     let t = soundAt (a .quarter) (a .last) (a .numbers .now) (a .starts .now) (a .ends .now) (a .versions .now) in
     (search needs, rw (each-more t (l .i), l .inv .1, c .is-sound .ensures))
 
 returns : tie.Need-returns Inv-loop μ-loop
 returns c =
     let l = c .before .loop in
-    let a = c .before .before .args in
+    let a = c .before .before .before .before .before .before .args in
     let e : l .i ≡ a .n = omega arith in
     rw e at (l .inv .1)
 

@@ -1,47 +1,76 @@
--- The first i of r are the first i objects, changed (change-took).
-use mathlib.Core.Path.{_≡_, refl, sym, ap, _∙_}
-use Prim.Native.Nat.{ℕ, _-_, _≤_}
+-- The first i objects are renewed, and all else is as it was (renewed-one, renewed-none).
+use mathlib.Core.Path.{_≡_}
+use Prim.Native.Nat.{_-_, _≤_, _<_}
 use native.Mathlib.Omega.{arith}
 use lib.ListN.{length, take}
+use lib.Seq.{take-all}
 use borrow.Author.Needs.{needs}
 use Rattle.lemmas.specs.Lists.{change}
-use Rattle.lemmas.specs.Loops.{unmapped, take-within, change-took}
 use Rattle.rules.specs.declared.Object.{Object}
-use Rattle.rules.specs.Operations.{withVersion, noObject}
+use Rattle.rules.specs.Operations.{withVersion}
+use Rattle.state.specs.Table.{heldIn}
+use Rattle.state.specs.Changes.{Became, frontedIn}
+use Rattle.state.specs.Steps.{became-same, renewed-one, renewed-none}
 use Rattle.state.proofs.renew.Statement.{statement}
 use Rattle.state.proofs.renew.Tie as tie
 
 abbrev Inv-loop : tie.InvT-loop
-Inv-loop number version os n r₀ i₀ r i =
-    (i ≤ n) × (length (r .items) ≡ 16) × (take i (r .items) ≡ change Object.number number (withVersion version) (take i (os .items)))
+Inv-loop table₀ number version n i₀ table i =
+    (i ≤ n) × (Became table₀ table (frontedIn (change Object.number number (withVersion version) (take i (heldIn table₀))) table₀))
 
 abbrev μ-loop : tie.MeasureT-loop
-μ-loop number version os n r₀ i₀ r i = n - i
+μ-loop table₀ number version n i₀ table i = n - i
 
 loop-holds : tie.Need-loop-holds Inv-loop μ-loop
 unfolding change
-loop-holds c = (search needs, search (needs, unmapped), refl)
+loop-holds c = (search needs, became-same (c .before .before .before .args .table .now))
+
+-- the table is as long as it was, and place i is an object's
+inside : (c : tie.In-loop Inv-loop μ-loop) → (length (c .before .loop .table) ≡ 67) × (c .before .loop .i < 16)
+    × (c .before .loop .i < length (heldIn (c .before .before .before .before .before .args .table .now)))
+inside c =
+    let l = c .before .loop .inv .1 .long in
+    let n = c .before .before .object-count .ensures in
+    (omega arith, omega arith, omega arith)
+
+slice-read-if1 : tie.Need-slice-read-if1 Inv-loop μ-loop
+slice-read-if1 c = omega (arith, inside (c .before))
+
+slice-write-table : tie.Need-slice-write-table Inv-loop μ-loop
+slice-write-table c = omega (arith, inside (c .before .before))
 
 loop-again : tie.Need-loop-again Inv-loop μ-loop
 loop-again c =
     let l = c .before .before .before .loop in
-    let a = c .before .before .before .before .before .args in
-    let long : length (a .t1 .items) ≡ 16 = search (needs, unmapped) in
-    let turn = change-took Object.number (a .number) (withVersion (a .version)) (a .t1 .items) (l .r .items) (l .i) noObject (c .renewed .result) (omega arith) (omega arith) (l .inv .2) (c .renewed .ensures) in
-    (search needs, search needs, turn)
+    let s = c .before .before .before .before .before .before .before in
+    let a = s .args in (
+      omega arith,
+      renewed-one (a .table .now) (l .table) (a .number) (a .version) (l .i) (s .pre) (inside (c .before .before) .2) (l .inv .1) (c .if1 .taken),
+    )
+
+loop-again-2 : tie.Need-loop-again-2 Inv-loop μ-loop
+loop-again-2 c =
+    let l = c .before .before .before .loop in
+    let s = c .before .before .before .before .before .before .before in
+    let a = s .args in (
+      omega arith,
+      renewed-none (a .table .now) (l .table) (a .number) (a .version) (l .i) (s .pre) (inside (c .before .before) .2) (l .inv .1) (c .if1 .left),
+    )
+
+same-length : tie.Need-same-length Inv-loop μ-loop
+same-length c = c .before .loop .inv .1 .long
 
 returns : tie.Need-returns Inv-loop μ-loop
 returns c =
     let l = c .before .loop in
-    let a = c .before .before .before .args in
-    let long : length (a .t1 .items) ≡ 16 = search (needs, unmapped) in
-    let e : l .i ≡ c .before .before .within .result = omega arith in
-    let all = take-within (a .t1 .count) 16 (a .t1 .items) long (l .i) (omega arith) in
-    (ap (λ (k : ℕ). take k (l .r .items)) (sym e) ∙ (rw all at (l .inv .2)), search needs)
+    let t = c .before .before .before .before .before .args .table .now in
+    let n = c .before .before .object-count .ensures in
+    rw (take-all (l .i) (heldIn t) (omega arith)) at (l .inv .1)
 
 pub renew-spec : {M : Type 1} → statement M
 renew-spec =
     tie.close
     (tie.spec
-    Inv-loop μ-loop (λ c κs. search needs) loop-holds (λ c. search needs) (λ c. search needs) (λ c κs. search needs) (λ c. search needs)
-    (λ c. search needs) (λ c. search needs) (λ c. search needs) loop-again returns)
+    Inv-loop μ-loop (λ c κs. search needs) loop-holds (λ c. search needs) (λ c. search needs) (λ c. search needs)
+    slice-read-if1 (λ c. search needs) (λ c. search needs) slice-write-table (λ c. search needs) loop-again
+    (λ c. search needs) loop-again-2 same-length returns)

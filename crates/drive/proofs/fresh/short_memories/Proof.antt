@@ -23,17 +23,15 @@ loop-holds c = (search needs, refl)
 
 loop-again : tie.Need-loop-again Inv-loop μ-loop
 loop-again c =
-    let l = c .before .loop in
-    let a = c .before .before .args in
-    let long : length (a .t1) ≡ 5 = search needs in
-    (search needs, rw (every-take short (a .t1) (l .i) 0 (omega arith), l .inv .1))
+    let l = c .before .before .loop in
+    let a = c .before .before .before .args in
+    (search needs, rw (every-take short (a .ls .now) (l .i) 0 (omega arith), l .inv .1))
 
 returns : tie.Need-returns Inv-loop μ-loop
 returns c =
     let l = c .before .loop in
     let a = c .before .before .args in
-    let long : length (a .t1) ≡ 5 = search needs in
-    rw (take-all (l .i) (a .t1) (omega arith)) at (l .inv .1)
+    rw (take-all (l .i) (a .ls .now) (omega arith)) at (l .inv .1)
 
 pub short-memories-spec : {M : Type 1} → statement M
 short-memories-spec =

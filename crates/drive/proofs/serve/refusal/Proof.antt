@@ -1,10 +1,10 @@
--- Row, keys and partition as they came.
+-- The row, and nothing else.
 use mathlib.Core.Path.{refl}
 use Rattle.drive.proofs.serve.refusal.Statement.{statement}
 use Rattle.drive.proofs.serve.refusal.Tie as tie
 
 returns : tie.Need-returns
-returns c = (refl, refl, refl, refl)
+returns c = refl
 
 pub refusal-spec : {M : Type 1} → statement M
 refusal-spec = tie.close (tie.spec returns)

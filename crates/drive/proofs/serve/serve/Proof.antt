@@ -1,152 +1,191 @@
 -- Row 8, row 9, the judged rows, the grant: each by its law of Serving.
 use mathlib.Core.Path.{_≡_, refl, sym, ap, subst, _∙_}
-use mathlib.Core.Bool.{true, false, cond}
-use mathlib.Core.Option.{Option, none}
+use mathlib.Core.Bool.{true, false}
+use mathlib.Core.Option.{Option, none, some}
 use mathlib.Core.List.{List, _++_}
-use Prim.Native.Nat.{ℕ, _/_, _≤_}
+use Prim.Native.Nat.{ℕ, _+_, _-_, _*_, _≤_, _<_}
 use native.Mathlib.Omega.{arith}
 use lib.ListN.{length, take}
 use borrow.Author.Tests.{not-true, not-false}
-use Rattle.lemmas.specs.Tests.{_isnt_}
+use borrow.Rule.Slice.PartMut.{midOf}
+use Rattle.lemmas.specs.Lists.{part}
 use Rattle.lemmas.specs.Rows.{firstRow}
 use Rattle.digest.specs.Hmac.{hmac}
 use Rattle.digest.specs.Stream.{Keyed}
-use Rattle.rules.specs.declared.Request.{Request}
 use Rattle.rules.specs.declared.Entry.{Entry}
 use Rattle.rules.specs.Frame.{fields}
 use Rattle.rules.specs.Drive.{quarter}
-use Rattle.rules.specs.Operations.{credentialKey, placeOf}
+use Rattle.rules.specs.Operations.{keyIn, credentialKey}
 use Rattle.rules.specs.Rows.{driveRows}
+use Rattle.keyring.specs.Keys.{keysIn, isSet, placeOf}
+use Rattle.keyring.specs.Laws.{set-there, key-in-set, key-in-unset}
+use Rattle.state.specs.Table.{heldIn, partitionIn}
 use Rattle.judge.specs.Judge.{placeFor, judgeRows}
-use Rattle.partition.specs.Partition.{partitionOf}
 use Rattle.placing.specs.Placing.{told}
 use Rattle.wire.specs.Parse.{requestTold}
 use Rattle.drive.specs.Share.{alone, Ready}
 use Rattle.drive.specs.Site.{Granting}
 use Rattle.drive.proofs.Frames.{long, the-credential, both-records}
-use Rattle.drive.proofs.Serving.{zero-row, eight, nine, from10, credential-key, signing-is, refusal-given, granted-given, room-of, small-size, placed-is}
+use Rattle.drive.proofs.Serving.{
+  zero-row,
+  eight,
+  nine,
+  from10,
+  credential-key,
+  set-is,
+  refusal-given,
+  granted-given,
+  room-of,
+  small-size,
+  placed-is,
+  secret-is,
+}
 use borrow.Author.Needs.{needs}
 use Rattle.drive.proofs.serve.serve.Statement.{statement}
 use Rattle.drive.proofs.serve.serve.Tie as tie
 
-secret-long : (t : tie.After-key-in) → length (t .key-in .result .bytes) ≡ 32
-secret-long t = search needs
+-- ---- past row 8 the key is set
+set-of : (t : tie.Else1) → let a = t .before .before .before .before .before .before .before .before .before .args in isSet (a .keys .now) (placeOf (a .c .slot) (a .c .partition)) ≡ true
+set-of t =
+    let a = t .before .before .before .before .before .before .before .before .before .args in
+    let i = t .before .is-set in
+    ap (isSet (a .keys .now)) (sym (t .before .before .place-of .ensures)) ∙ sym (i .ensures) ∙ not-false (i .result) (t .if1 .left)
 
--- past row 8 the key is set
-set-of : (t : tie.Else1) → t .before .before .key-in .result .set ≡ true
-set-of t = not-false (t .before .before .key-in .result .set) (t .if1 .left)
+-- its bytes
+abbrev secret : tie.Else1 → List ℕ
+secret t = let a = t .before .before .before .before .before .before .before .before .before .args in part (a .keys .now) (32 * placeOf (a .c .slot) (a .c .partition)) 32
+
+found-of : (t : tie.Else1) → let a = t .before .before .before .before .before .before .before .before .before .args in length (a .keys .now) ≡ 462
+    → keyIn (keysIn (a .keys .now)) (a .c .partition) (a .c .slot) ≡ some (secret t)
+found-of t e = let a = t .before .before .before .before .before .before .before .before .before .args in key-in-set (a .keys .now) (a .c .partition) (a .c .slot) e (set-of t)
+
+-- they stand within the keys
+there : (t : tie.Else1) → let a = t .before .before .before .before .before .before .before .before .before .args in
+    (length (a .keys .now) ≡ 462) × (t .before .before .place-of .result < 14)
+there t =
+    let a = t .before .before .before .before .before .before .before .before .before .args in
+    let h = set-there (a .keys .now) (placeOf (a .c .slot) (a .c .partition)) (set-of t) in
+    let e = t .before .before .place-of .ensures in
+    (h .0, omega (arith, h .1))
+
+mul-from : tie.Need-mul-from
+mul-from c = let h = there c in search needs
+
+add-to : tie.Need-add-to
+add-to c = let h = there c in search needs
+
+part-opened-end : tie.Need-part-opened-end
+part-opened-end c = let h = there c in omega (arith, h)
 
 -- the keyed hash has taken credential and request under the credential key
-keyed-of : (t : tie.After-opened)
-    → let a = t .before .before .before .before .before .before .before .before .before .before .before .before .before .args in
-    (l : List Entry) → Ready (a .share) l (a .medium .now) (a .frame .now) (a .c) (a .q)
-    → Keyed (t .opened .result) (credentialKey (alone (a .share) l .tables .keys) (fields (a .frame .now))) (fields (a .frame .now) .credential ++ fields (a .frame .now) .request)
+keyed-of : (t : tie.After-opened) → let a = t .before .before .before .before .before .before .before .before .before .before .before .args in
+    (l : List Entry) → Ready (a .share) (a .keys .now) (a .table .now) l (a .medium .now) (a .frame .now) (a .c) (a .q)
+    → Keyed (t .opened .result) (credentialKey (keysIn (a .keys .now)) (fields (a .frame .now))) (fields (a .frame .now) .credential ++ fields (a .frame .now) .request)
 keyed-of t l w =
-    let a = t .before .before .before .before .before .before .before .before .before .before .before .before .before .args in
-    let k = t .before .before .before .before .before .key-in in
+    let a = t .before .before .before .before .before .before .before .before .before .before .before .args in
     let f = a .frame .now in
-    let key : hmac (k .result .bytes) (take 36 f) ≡ credentialKey (alone (a .share) l .tables .keys) (fields f) =
-    ap (hmac (k .result .bytes)) (the-credential f) ∙ credential-key (a .share) l (a .medium .now) (a .frame .now) (a .reply .now) (a .c) (a .q) w (k .result) (k .ensures) (set-of (t .before .before .before)) in
-    subst (λ (n : List ℕ). Keyed (t .opened .result) (credentialKey (alone (a .share) l .tables .keys) (fields f)) n) (both-records f)
+    let s = secret (t .before .before) in
+    let j = t .before .before .before .before .place-of in
+    let key : hmac (midOf (32 * j .result) (32 * j .result + 32 - 32 * j .result) (a .keys .now)) (take 36 f) ≡ credentialKey (keysIn (a .keys .now)) (fields f) =
+    ap (λ (k : List ℕ). hmac k (take 36 f)) (secret-is (a .keys .now) (j .result) (placeOf (a .c .slot) (a .c .partition)) (j .ensures))
+    ∙ ap (hmac s) (the-credential f) ∙ credential-key (a .share) (a .keys .now) (a .table .now) l (a .medium .now) (a .frame .now) (a .reply .now) (a .c) (a .q) w (some s) (found-of (t .before .before) (w .keys)) s refl in
+    subst (λ (n : List ℕ). Keyed (t .opened .result) (credentialKey (keysIn (a .keys .now)) (fields f)) n) (both-records f)
     (subst (λ (n : List ℕ). Keyed (t .opened .result) n (take 64 f)) key (t .opened .ensures))
 
 -- the row that the rules give is the one that was judged
-row-of : (t : tie.After-judge)
-    → let a = t .before .before .before .before .before .before .before .before .before .before .before .before .before .before .before .before .before .before .before .args in
-    (l : List Entry) → Ready (a .share) l (a .medium .now) (a .frame .now) (a .c) (a .q)
-    → firstRow (driveRows (alone (a .share) l) (fields (a .frame .now)) (a .reply .now)) ≡ t .judge .result
+row-of : (t : tie.After-judge) → let a = t .before .before .before .before .before .before .before .before .before .before .before .before .before .before .before .before .before .args in
+    (l : List Entry) → Ready (a .share) (a .keys .now) (a .table .now) l (a .medium .now) (a .frame .now) (a .c) (a .q)
+    → firstRow (driveRows (alone (a .share) (a .keys .now) (a .table .now) l) (fields (a .frame .now)) (a .reply .now)) ≡ t .judge .result
 row-of t l w =
-    let a = t .before .before .before .before .before .before .before .before .before .before .before .before .before .before .before .before .before .before .before .args in
-    let k = t .before .before .before .before .before .before .before .before .before .before .before .key-in in
+    let a = t .before .before .before .before .before .before .before .before .before .before .before .before .before .before .before .before .before .args in
+    let E = t .before .before .before .before .before .before .before .before in
+    let s = secret E in
     let g = t .before .before .before .before .before .is-signed in
-    from10 (a .share) l (a .medium .now) (a .frame .now) (a .reply .now) (a .c) (a .q) w (k .result) (k .ensures) (set-of (t .before .before .before .before .before .before .before .before .before)) (g .result) (g .ensures (credentialKey (alone (a .share) l .tables .keys) (fields (a .frame .now))) (keyed-of (t .before .before .before .before .before .before) l w))
+    from10 (a .share) (a .keys .now) (a .table .now) l (a .medium .now) (a .frame .now) (a .reply .now) (a .c) (a .q) w (some s) (found-of E (w .keys)) s refl (g .result) (g .ensures (credentialKey (keysIn (a .keys .now)) (fields (a .frame .now))) (keyed-of (t .before .before .before .before .before .before) l w))
     (not-false (g .result) (t .before .before .before .before .if2 .left))
-    ∙ sym (t .judge .ensures ∙ ap (λ (p : Option ℕ). firstRow (judgeRows (a .share .highwater) (partitionOf (a .share .partition)) (a .share .replayed) (a .share .held) (a .c) (requestTold (a .q)) p (length (a .reply .now))))
-    (t .before .place-for .ensures ∙ ap (placeFor (quarter (a .share .size)) (a .share .partition .objects)) (t .before .before .numbers .ensures)))
+    ∙ sym (t .judge .ensures ∙ ap (λ (p : Option ℕ). firstRow (judgeRows (a .share .highwater) (partitionIn (a .table .now)) (a .share .replayed) (a .share .held) (a .c) (requestTold (a .q)) p (length (a .reply .now))))
+    (t .before .place-for .ensures ∙ ap (placeFor (quarter (a .share .size)) (heldIn (a .table .now))) (t .before .before .numbers .ensures)))
 
 returns : tie.Need-returns
 returns c l w =
-    let a = c .before .before .before .before .before .before .before .before .before .before .before .args in
-    let k = c .before .before .before .key-in in
-    let e = c .refusal .ensures in
-    refusal-given (a .share) l (a .medium .now) (a .frame .now) (a .reply .now) (a .c) (a .q) w (c .refusal .result) 8 (eight (a .share) l (a .medium .now) (a .frame .now) (a .reply .now) (a .c) (a .q) w (k .result) (k .ensures) (not-true (k .result .set) (c .before .if1 .taken)))
-    (λ z. omega arith) (e .0) (e .1) (e .2) (e .3)
+    let a = c .before .before .before .before .before .before .before .before .before .before .args in
+    let i = c .before .before .is-set in
+    let unset : isSet (a .keys .now) (placeOf (a .c .slot) (a .c .partition)) ≡ false =
+    ap (isSet (a .keys .now)) (sym (c .before .before .before .place-of .ensures)) ∙ sym (i .ensures) ∙ not-true (i .result) (c .before .if1 .taken) in
+    refusal-given (a .share) (a .keys .now) (a .table .now) l (a .medium .now) (a .frame .now) (a .reply .now) (a .c) (a .q) w (c .refusal .result) 8 (eight (a .share) (a .keys .now) (a .table .now) l (a .medium .now) (a .frame .now) (a .reply .now) (a .c) (a .q) w none (key-in-unset (a .keys .now) (a .c .partition) (a .c .slot) (w .keys) unset) refl)
+    (λ z. omega arith) (c .refusal .ensures)
 
 opened-requires : tie.Need-opened-requires
 opened-requires c κs =
-    let a = c .before .before .before .before .before .before .before .before .before .before .before .before .args in
-    let l = c .before .before .before .before .before .before .before .before .before .before .before .before .pre .memory in
-    let w = c .before .before .before .before .before .before .before .before .before .before .before .before .pre .ready in
-    let h = long (a .frame .now) (zero-row (a .share) l (a .medium .now) (a .frame .now) (a .reply .now) (a .c) (a .q) w) in
+    let a = c .before .before .before .before .before .before .before .before .before .before .args in
+    let l = c .before .before .before .before .before .before .before .before .before .before .pre .memory in
+    let w = c .before .before .before .before .before .before .before .before .before .before .pre .ready in
+    let h = long (a .frame .now) (zero-row (a .share) (a .keys .now) (a .table .now) l (a .medium .now) (a .frame .now) (a .reply .now) (a .c) (a .q) w) in
     omega arith
 
 is-signed-requires : tie.Need-is-signed-requires
 is-signed-requires c κs =
-    let a = c .before .before .before .before .before .before .before .before .before .before .before .before .before .args in
-    let l = c .before .before .before .before .before .before .before .before .before .before .before .before .before .pre .memory in
-    let w = c .before .before .before .before .before .before .before .before .before .before .before .before .before .pre .ready in
-    long (a .frame .now) (zero-row (a .share) l (a .medium .now) (a .frame .now) (a .reply .now) (a .c) (a .q) w)
+    let a = c .before .before .before .before .before .before .before .before .before .before .before .args in
+    let l = c .before .before .before .before .before .before .before .before .before .before .before .pre .memory in
+    let w = c .before .before .before .before .before .before .before .before .before .before .before .pre .ready in
+    long (a .frame .now) (zero-row (a .share) (a .keys .now) (a .table .now) l (a .medium .now) (a .frame .now) (a .reply .now) (a .c) (a .q) w)
 
 returns-2 : tie.Need-returns-2
 returns-2 c l w =
-    let a = c .before .before .before .before .before .before .before .before .before .before .before .before .before .before .before .before .args in
-    let k = c .before .before .before .before .before .before .before .before .key-in in
+    let a = c .before .before .before .before .before .before .before .before .before .before .before .before .before .before .args in
+    let E = c .before .before .before .before .before in
+    let s = secret E in
     let g = c .before .before .is-signed in
-    let e = c .refusal2 .ensures in
-    refusal-given (a .share) l (a .medium .now) (a .frame .now) (a .reply .now) (a .c) (a .q) w (c .refusal2 .result) 9
-    (nine (a .share) l (a .medium .now) (a .frame .now) (a .reply .now) (a .c) (a .q) w (k .result) (k .ensures) (set-of (c .before .before .before .before .before .before)) (g .result) (g .ensures (credentialKey (alone (a .share) l .tables .keys) (fields (a .frame .now))) (keyed-of (c .before .before .before) l w)) (not-true (g .result) (c .before .if2 .taken)))
-    (λ z. omega arith) (e .0) (e .1) (e .2) (e .3)
+    refusal-given (a .share) (a .keys .now) (a .table .now) l (a .medium .now) (a .frame .now) (a .reply .now) (a .c) (a .q) w (c .refusal2 .result) 9
+    (nine (a .share) (a .keys .now) (a .table .now) l (a .medium .now) (a .frame .now) (a .reply .now) (a .c) (a .q) w (some s) (found-of E (w .keys)) s refl (g .result) (g .ensures (credentialKey (keysIn (a .keys .now)) (fields (a .frame .now))) (keyed-of (c .before .before .before) l w)) (not-true (g .result) (c .before .if2 .taken)))
+    (λ z. omega arith) (c .refusal2 .ensures)
 
 cast-place-for : tie.Need-cast-place-for
 cast-place-for c =
-    let a = c .before .before .before .before .before .before .before .before .before .before .before .before .before .before .before .before .args in
-    let x = c .before .before .before .before .before .before .before .before .before .before .before .before .before .before .before .before .pre .memory in
-    let w = c .before .before .before .before .before .before .before .before .before .before .before .before .before .before .before .before .pre .ready in
-    let h = small-size (a .share) x (a .medium .now) (a .frame .now) (a .reply .now) (a .c) (a .q) w in
+    let a = c .before .before .before .before .before .before .before .before .before .before .before .before .before .before .args in
+    let l = c .before .before .before .before .before .before .before .before .before .before .before .before .before .before .pre .memory in
+    let w = c .before .before .before .before .before .before .before .before .before .before .before .before .before .before .pre .ready in
+    let h = small-size (a .share) (a .keys .now) (a .table .now) l (a .medium .now) (a .frame .now) (a .reply .now) (a .c) (a .q) w in
     search needs
 
 returns-3 : tie.Need-returns-3
 returns-3 c l w =
-    let a = c .before .before .before .before .before .before .before .before .before .before .before .before .before .before .before .before .before .before .before .before .before .args in
-    let e = c .refusal3 .ensures in
-    refusal-given (a .share) l (a .medium .now) (a .frame .now) (a .reply .now) (a .c) (a .q) w (c .refusal3 .result) (c .before .before .judge .result) (row-of (c .before .before) l w) (c .before .if3 .taken) (e .0) (e .1) (e .2) (e .3)
-
-slice-aggregate-grant : tie.Need-slice-aggregate-grant
-slice-aggregate-grant c = sym (secret-long (c .before .before .before .before .before .before .before .before .before .before .before .before .before))
+    let a = c .before .before .before .before .before .before .before .before .before .before .before .before .before .before .before .before .before .before .before .args in
+    refusal-given (a .share) (a .keys .now) (a .table .now) l (a .medium .now) (a .frame .now) (a .reply .now) (a .c) (a .q) w (c .refusal3 .result) (c .before .before .judge .result) (row-of (c .before .before) l w) (c .before .if3 .taken) (c .refusal3 .ensures)
 
 -- no row applies: a grant's beginning
-granting : (t : tie.Else3)
-    → let a = t .before .before .before .before .before .before .before .before .before .before .before .before .before .before .before .before .before .before .before .before .args in
-    (l : List Entry) → Ready (a .share) l (a .medium .now) (a .frame .now) (a .c) (a .q)
-    → Granting (a .share) l (t .before .before .before .before .before .before .before .opened .result) (t .before .before .before .before .before .before .before .before .before .before .before .before .key-in .result .bytes) (a .medium .now) (a .frame .now) (a .reply .now) (a .c) (a .q) (told (t .before .before .place-for .result))
+granting : (t : tie.Else3) → let a = t .before .before .before .before .before .before .before .before .before .before .before .before .before .before .before .before .before .before .args in
+    (l : List Entry) → Ready (a .share) (a .keys .now) (a .table .now) l (a .medium .now) (a .frame .now) (a .c) (a .q)
+    → Granting (a .share) (a .keys .now) (a .table .now) l (t .before .before .before .before .before .before .before .opened .result) (a .medium .now) (a .frame .now) (a .reply .now) (a .c) (a .q) (told (t .before .before .place-for .result))
 granting t l w =
-    let a = t .before .before .before .before .before .before .before .before .before .before .before .before .before .before .before .before .before .before .before .before .args in
-    let k = t .before .before .before .before .before .before .before .before .before .before .before .before .key-in in
+    let a = t .before .before .before .before .before .before .before .before .before .before .before .before .before .before .before .before .before .before .args in
+    let E = t .before .before .before .before .before .before .before .before .before in
     record {
       parsed = w .parsed;
-      long = long (a .frame .now) (zero-row (a .share) l (a .medium .now) (a .frame .now) (a .reply .now) (a .c) (a .q) w);
-      room = room-of (a .share) l (a .medium .now) (a .frame .now) (a .reply .now) (a .c) (a .q) w (row-of (t .before) l w ∙ t .if3 .left);
+      long = long (a .frame .now) (zero-row (a .share) (a .keys .now) (a .table .now) l (a .medium .now) (a .frame .now) (a .reply .now) (a .c) (a .q) w);
+      room = room-of (a .share) (a .keys .now) (a .table .now) l (a .medium .now) (a .frame .now) (a .reply .now) (a .c) (a .q) w (row-of (t .before) l w ∙ t .if3 .left);
       keyed = keyed-of (t .before .before .before .before .before .before .before) l w;
-      key = sym (signing-is (a .share) l (a .medium .now) (a .frame .now) (a .reply .now) (a .c) (a .q) w (k .result) (k .ensures) (set-of (t .before .before .before .before .before .before .before .before .before .before)));
-      place = t .before .before .place-for .ensures ∙ ap (placeFor (quarter (a .share .size)) (a .share .partition .objects)) (t .before .before .before .numbers .ensures) ∙ placed-is (a .share) l (a .medium .now) (a .frame .now) (a .reply .now) (a .c) (a .q) w;
-      few = w .few;
+      set = set-is (a .share) (a .keys .now) (a .table .now) l (a .medium .now) (a .frame .now) (a .reply .now) (a .c) (a .q) w (some (secret E)) (found-of E (w .keys)) (secret E) refl;
+      place = t .before .before .place-for .ensures ∙ ap (placeFor (quarter (a .share .size)) (heldIn (a .table .now))) (t .before .before .before .numbers .ensures) ∙ placed-is (a .share) (a .keys .now) (a .table .now) l (a .medium .now) (a .frame .now) (a .reply .now) (a .c) (a .q) w;
+      table = w .table;
     }
 
 grant-requires : tie.Need-grant-requires
 grant-requires c κs =
-    let pre = c .before .before .before .before .before .before .before .before .before .before .before .before .before .before .before .before .before .before .before .before .before .before .before .pre in
-    record { memory = pre .memory; granting = granting (c .before .before .before) (pre .memory) (pre .ready) }
+    let pre = c .before .before .before .before .before .before .before .before .before .before .before .before .before .before .before .before .before .before .before .before .pre in
+    record { memory = pre .memory; granting = granting (c .before .before) (pre .memory) (pre .ready) }
 
 returns-4 : tie.Need-returns-4
 returns-4 c l w =
-    let a = c .before .before .before .before .before .before .before .before .before .before .before .before .before .before .before .before .before .before .before .before .before .before .before .before .before .before .before .before .args in
-    granted-given (a .share) l (a .medium .now) (a .frame .now) (a .reply .now) (a .c) (a .q) w (c .before .before .before .before .grant .result) _ _ (row-of (c .before .before .before .before .before .before .before .before .before) l w ∙ c .before .before .before .before .before .before .before .before .if3 .left) (c .before .before .before .before .grant .ensures l (granting (c .before .before .before .before .before .before .before .before) l w))
+    let a = c .before .before .before .before .before .before .before .before .before .before .before .before .before .before .before .before .before .before .before .before .before .before .before .before .before .args in
+    let E = c .before .before .before .before .before .before .before in
+    granted-given (a .share) (a .keys .now) (a .table .now) l (a .medium .now) (a .frame .now) (a .reply .now) (a .c) (a .q) w (c .before .before .before .before .grant .result) _ _ (row-of (E .before) l w ∙ E .if3 .left) (c .before .before .before .before .grant .ensures l (granting E l w))
 
 pub serve-spec : {M : Type 1} → statement M
 serve-spec =
     tie.close
     (tie.spec
-    (λ c. search needs) (λ c κs. search needs) (λ c κs. search needs) returns (λ c. search needs) opened-requires
-    is-signed-requires (λ c κs. search needs) returns-2 cast-place-for (λ c κs. search needs) (λ c κs. search needs)
-    (λ c κs. search needs) (λ c κs. search needs) returns-3 slice-aggregate-grant grant-requires (λ c. search needs)
-    (λ c. search needs) returns-4)
+    (λ c. search needs) (λ c κs. search needs) (λ c κs. search needs) (λ c κs. search needs) returns mul-from add-to (λ c. search needs)
+    (λ c. search needs) part-opened-end opened-requires is-signed-requires (λ c κs. search needs) returns-2 cast-place-for
+    (λ c κs. search needs) (λ c κs. search needs) (λ c κs. search needs) (λ c κs. search needs) returns-3 grant-requires
+    (λ c. search needs) (λ c. search needs) returns-4)

@@ -3,7 +3,7 @@ use mathlib.Core.Path.{_≡_}
 use Prim.Native.Nat.{_*_, _/_, _≤_}
 use native.Mathlib.Nat.{mul-le-mul}
 use native.Mathlib.Omega.{arith}
-use Rattle.partition.specs.Partition.{partitionOf, targetOf}
+use Rattle.state.specs.Table.{partitionIn, targetIn}
 use Rattle.drive.specs.Site.{siteOf}
 use borrow.Author.Needs.{needs}
 use Rattle.drive.proofs.serve.site_of.Statement.{statement}
@@ -11,19 +11,19 @@ use Rattle.drive.proofs.serve.site_of.Tie as tie
 
 mul-t10 : tie.Need-mul-t10
 mul-t10 c =
-    let a = c .before .before .before .args in
+    let a = c .before .before .before .before .args in
     let small : a .c .partition * (a .size / 4) ≤ 3 * 4194304 = mul-le-mul {n₁ = a .c .partition} {m₁ = a .size / 4} {n₂ = 3} {m₂ = 4194304} (omega arith) (omega arith) in
     search needs
 
 returns : tie.Need-returns
-unfolding siteOf partitionOf targetOf
+unfolding siteOf partitionIn targetIn
 returns c =
     rw (
       c .next-version .ensures,
-      c .before .present .ensures,
-      c .before .before .pick .ensures,
-      c .before .before .before .before .start-of .ensures,
-      c .before .before .before .before .before .before .before .named .ensures,
+      c .before .before .present .ensures,
+      c .before .before .before .before .pick .ensures,
+      c .before .before .before .before .before .before .start-of .ensures,
+      c .before .before .before .before .before .before .before .before .before .named .ensures,
     )
 
 pub site-of-spec : {M : Type 1} → statement M
@@ -31,4 +31,4 @@ site-of-spec =
     tie.close
     (tie.spec
     (λ c. search needs) (λ c κs. search needs) (λ c. search needs) mul-t10 (λ c κs. search needs)
-    (λ c κs. search needs) (λ c κs. search needs) (λ c κs. search needs) returns)
+    (λ c κs. search needs) (λ c. search needs) (λ c κs. search needs) (λ c. search needs) (λ c κs. search needs) returns)

@@ -1,0 +1,36 @@
+-- Where the bytes are not all there, or there is no such key, none is set.
+use mathlib.Core.Path.{_≡_, refl}
+use mathlib.Core.Bool.{true, _&&_}
+use Prim.Native.Nat.{_<_}
+use native.Mathlib.Omega.{arith}
+use lib.ListN.{length}
+use borrow.Author.Tests.{not-true, not-false, ltb-true, eqb-true}
+use Rattle.lemmas.specs.Tests.{_is_, _under_, and-l, and-r}
+use Rattle.keyring.proofs.is_set.Statement.{statement}
+use Rattle.keyring.proofs.is_set.Tie as tie
+
+there : (t : tie.Else1) → let a = t .before .args in (length (a .keys .now) is 462 && a .j under 14) ≡ true
+there t = let a = t .before .args in not-false (length (a .keys .now) is 462 && a .j under 14) (t .if1 .left)
+
+low : (t : tie.Else1) → t .before .args .j < 14
+low t =
+    let a = t .before .args in
+    ltb-true (a .j) 14 (and-r (length (a .keys .now) is 462) (a .j under 14) (there t))
+
+long : (t : tie.Else1) → length (t .before .args .keys .now) ≡ 462
+long t =
+    let a = t .before .args in
+    eqb-true (length (a .keys .now)) 462 (and-l (length (a .keys .now) is 462) (a .j under 14) (there t))
+
+returns : tie.Need-returns
+returns c =
+    let a = c .before .args in rw (not-true (length (a .keys .now) is 462 && a .j under 14) (c .if1 .taken)) refl
+
+returns-2 : tie.Need-returns-2
+returns-2 c = rw (there (c .before)) refl
+
+pub is-set-spec : {M : Type 1} → statement M
+is-set-spec =
+    tie.close
+    (tie.spec
+    returns (λ c. omega (arith, low c)) (λ c. omega (arith, low (c .before), long (c .before))) returns-2)

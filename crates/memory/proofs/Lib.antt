@@ -1,0 +1,2 @@
+-- A law of the quick pass over a memory's times.
+mod Quick

@@ -1,0 +1,21 @@
+-- The first 67 of the tables' numbers are that many.
+use mathlib.Core.Path.{_≡_, sym}
+use native.Mathlib.Omega.{arith}
+use lib.ListN.{length}
+use lib.Seq.{length-take-le}
+use borrow.Author.Needs.{needs}
+use Rattle.scenario.proofs.turn.start_of.Statement.{statement}
+use Rattle.scenario.proofs.turn.start_of.Tie as tie
+
+slice-aggregate-named : tie.Need-slice-aggregate-named
+slice-aggregate-named c =
+    let t = c .before .args .t1 in
+    let long : length t ≡ 268 = search needs in
+    sym (length-take-le 67 t (omega arith))
+
+pub start-of-spec : {M : Type 1} → statement M
+start-of-spec =
+    tie.close
+    (tie.spec
+    (λ c. search needs) slice-aggregate-named (λ c κs. search needs) (λ c. search needs) (λ c. search needs)
+    (λ c. search needs))

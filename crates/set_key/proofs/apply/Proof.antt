@@ -1,0 +1,102 @@
+-- Past the test the signing key's 32 bytes are there; an operation but 7 leaves all.
+use mathlib.Core.Path.{_≡_, refl, sym, ap, _∙_}
+use mathlib.Core.Logic.{inl, inr}
+use mathlib.Core.Bool.{true, false}
+use mathlib.Core.List.{List, [], _∷_}
+use Prim.Native.Nat.{ℕ, _+_, _*_, _-_, _<_}
+use native.Mathlib.Omega.{arith}
+use lib.ListN.{length, take, drop}
+use denote.Enum.Declared.{tagOf}
+use types.Run.{OneOf}
+use borrow.Author.Needs.{needs}
+use borrow.Author.Tests.{not-true, not-false}
+use Rattle.wire.specs.declared.Operation.{Operation}
+use Rattle.wire.specs.declared.Operation.the-variants.{Read, Write, Look, Raise, Create, Delete, SetKey}
+use Rattle.wire.proofs.Operation.{the-type}
+use Rattle.lemmas.specs.Lists.{part}
+use Rattle.digest.specs.Hmac.{hmac}
+use Rattle.keyring.specs.Keys.{isSet, placeOf, targetOf, keyPutAt}
+use Rattle.keyring.specs.Laws.{set-there}
+use Rattle.set_key.specs.Keys.{keysAfter}
+use Rattle.set_key.proofs.apply.Statement.{statement}
+use Rattle.set_key.proofs.apply.Tie as tie
+
+-- the tags of the other operations are not operation 7's, 6
+not-six : OneOf (0 ∷ 1 ∷ 2 ∷ 3 ∷ 4 ∷ 5 ∷ []) 6 → ⊥
+not-six (inl e) = absurd (omega arith)
+not-six (inr (inl e)) = absurd (omega arith)
+not-six (inr (inr (inl e))) = absurd (omega arith)
+not-six (inr (inr (inr (inl e)))) = absurd (omega arith)
+not-six (inr (inr (inr (inr (inl e))))) = absurd (omega arith)
+not-six (inr (inr (inr (inr (inr e))))) = absurd (omega arith)
+
+-- the other operations
+stays : (o : Operation) (slot p : ℕ) (signed ks : List ℕ) → OneOf (0 ∷ 1 ∷ 2 ∷ 3 ∷ 4 ∷ 5 ∷ []) (tagOf the-type o)
+    → ks ≡ keysAfter o slot p signed ks
+stays (Read a b) slot p signed ks h = refl
+stays (Write a b) slot p signed ks h = refl
+stays Look slot p signed ks h = refl
+stays Raise slot p signed ks h = refl
+stays (Create a b) slot p signed ks h = refl
+stays Delete slot p signed ks h = refl
+stays (SetKey a) slot p signed ks h = absurd (not-six h)
+
+-- operation 7, by whether the signing key, key j, is set
+module _ (target slot p j : ℕ) (signed ks : List ℕ) (e : j ≡ placeOf slot p) where
+  unset : isSet ks j ≡ false → ks ≡ keysAfter (SetKey target) slot p signed ks
+  unset h = rw (rw e at h) refl
+
+  put : (new s : List ℕ) → isSet ks j ≡ true → new ≡ hmac (take (32 * j + 32 - 32 * j) (drop (32 * j) ks)) signed
+      → s ≡ keyPutAt (targetOf slot p target) new ks → s ≡ keysAfter (SetKey target) slot p signed ks
+  unfolding part
+  put new s h n k =
+      let c : 32 * j + 32 - 32 * j ≡ 32 = omega arith in
+      k ∙ (rw (rw e at h, rw (c, e) at n) refl)
+
+there : (t : tie.Else1) → let a = t .before .before .before .before .before .before .before .before .before .args in
+    isSet (a .keys .now) (t .before .before .before .place-of .result) ≡ true
+there t = sym (t .before .is-set .ensures) ∙ not-false (t .before .is-set .result) (t .if1 .left)
+
+low : (t : tie.Else1) → t .before .before .before .place-of .result < 14
+low t =
+    let a = t .before .before .before .before .before .before .before .before .before .args in
+    set-there (a .keys .now) (t .before .before .before .place-of .result) (there t) .1
+
+long : (t : tie.Else1) → length (t .before .before .before .before .before .before .before .before .before .args .keys .now) ≡ 462
+long t =
+    let a = t .before .before .before .before .before .before .before .before .before .args in
+    set-there (a .keys .now) (t .before .before .before .place-of .result) (there t) .0
+
+returns : tie.Need-returns
+returns c =
+    let a = c .before .before .before .args in
+    stays (a .o) (a .slot) (a .p) (a .signed .now) (a .keys .now) (c .match .keys2)
+
+returns-2 : tie.Need-returns-2
+returns-2 c =
+    let f = c .before .before .before in
+    let a = f .before .before .before .before .before .before .args in
+    let o = f .before .before .o .given in
+    unset (o .0 .0) (a .slot) (a .p) (f .place-of .result) (a .signed .now) (a .keys .now) (f .place-of .ensures)
+    (sym (c .before .is-set .ensures) ∙ not-true (c .before .is-set .result) (c .if1 .taken))
+    ∙ ap (λ (o : Operation). keysAfter o (a .slot) (a .p) (a .signed .now) (a .keys .now)) (sym (o .1))
+
+returns-3 : tie.Need-returns-3
+returns-3 c =
+    let t = c .before .before .before .before .before .before .before .before in
+    let f = t .before .before .before in
+    let a = f .before .before .before .before .before .before .args in
+    let o = f .before .before .o .given in
+    let n = c .before .before .before .before .before .of in
+    put (o .0 .0) (a .slot) (a .p) (f .place-of .result) (a .signed .now) (a .keys .now) (f .place-of .ensures) (n .result)
+    (c .before .before .put-key .last .0) (there t) (n .ensures) (c .before .before .put-key .ensures)
+    ∙ ap (λ (o : Operation). keysAfter o (a .slot) (a .p) (a .signed .now) (a .keys .now)) (sym (o .1))
+
+pub apply-spec : {M : Type 1} → statement M
+apply-spec =
+    tie.close
+    (tie.spec
+    (λ c. search needs) returns (λ c κs. search needs) (λ c κs. search needs) (λ c. search needs) returns-2
+    (λ c. omega (arith, low c)) (λ c. omega (arith, low c)) (λ c. omega (arith, low c)) (λ c. search needs)
+    (λ c. search needs) (λ c. omega (arith, low (c .before), long (c .before))) (λ c κs. search needs)
+    (λ c. search needs) (λ c. search needs) (λ c κs. search needs) (λ c. search needs) returns-3)

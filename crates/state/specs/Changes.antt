@@ -1,0 +1,76 @@
+-- Document 01, operations 4 to 6: what each makes of a partition's table. t: the table; u: the table afterwards.
+use mathlib.Core.Path.{_≡_}
+use mathlib.Core.Bool.{cond}
+use mathlib.Core.List.{List, [], _∷_, _++_}
+use Prim.Native.Nat.{ℕ, _+_}
+use lib.ListN.{length, getD, drop, set}
+use Rattle.lemmas.specs.Tests.{_is_, _isnt_, _under_}
+use Rattle.lemmas.specs.Lists.{keep, change}
+use Rattle.rules.specs.declared.Object.{Object}
+use Rattle.rules.specs.Drive.{mostObjects}
+use Rattle.rules.specs.Operations.{withVersion}
+use Rattle.state.specs.Table.{tableSize, places, heldIn}
+
+-- what a table says: its version, the last version given, its count, and what stands at all sixteen places
+pub record Content : Type 0 where
+  pub version : ℕ
+  pub last : ℕ
+  pub count : ℕ
+  pub objects : List Object
+
+abbrev pub contentOf : List ℕ → Content
+contentOf t = record { version = getD t 0 0; last = getD t 1 0; count = getD t 2 0; objects = places t }
+
+-- u is as long as t and says c
+pub record Became (t u : List ℕ) (c : Content) : Type 0 where
+  pub long : length u ≡ length t
+  pub version : getD u 0 0 ≡ c .version
+  pub last : getD u 1 0 ≡ c .last
+  pub count : getD u 2 0 ≡ c .count
+  pub objects : places u ≡ c .objects
+
+-- a table now says c; a list that is no table is as it was
+pub record Changed (t u : List ℕ) (c : Content) : Type 0 where
+  pub table : length t ≡ tableSize → Became t u c
+  pub other : (length t ≡ tableSize → ⊥) → u ≡ t
+
+-- the objects f at the first places; what stands behind them stays
+abbrev pub fronted : List Object → List ℕ → List Object
+fronted f t = f ++ drop (length f) (places t)
+
+-- the table with the objects f at the first places, and with o at place i; all else as it was
+abbrev pub frontedIn : List Object → List ℕ → Content
+frontedIn f t = record { version = getD t 0 0; last = getD t 1 0; count = getD t 2 0; objects = fronted f t }
+
+abbrev pub storedIn : ℕ → Object → List ℕ → Content
+storedIn i o t = record { version = getD t 0 0; last = getD t 1 0; count = getD t 2 0; objects = set (places t) i o }
+
+-- 4. "object or partition gets the next version", which is v; object 0 means the partition
+unfoldable pub raisedIn : ℕ → ℕ → List ℕ → Content
+raisedIn number v t = record {
+  version = cond (number is 0) v (getD t 0 0);
+  last = v;
+  count = getD t 2 0;
+  objects = cond (number is 0) (places t) (fronted (change Object.number number (withVersion v) (heldIn t)) t);
+}
+
+-- 5. the object joins behind those that are held, where there is room; its version is the last given
+unfoldable pub joinedIn : Object → List ℕ → Content
+joinedIn o t = record {
+  version = getD t 0 0;
+  last = o .version;
+  count = cond (getD t 2 0 under mostObjects) (getD t 2 0 + 1) (getD t 2 0);
+  objects = cond (getD t 2 0 under mostObjects) (fronted (heldIn t ++ (o ∷ [])) t) (places t);
+}
+
+-- 6. "the object goes": those of other numbers, in their order
+abbrev pub others : ℕ → List ℕ → List Object
+others number t = keep (λ (a : Object). a .number isnt number) (heldIn t)
+
+unfoldable pub removedIn : ℕ → List ℕ → Content
+removedIn number t = record {
+  version = getD t 0 0;
+  last = getD t 1 0;
+  count = length (others number t);
+  objects = fronted (others number t) t;
+}

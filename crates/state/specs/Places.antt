@@ -1,0 +1,99 @@
+-- Laws of a table's places: how many, each of them, what is held, and a search among it.
+use mathlib.Core.Path.{_≡_, refl, sym, ap, _∙_}
+use mathlib.Core.Bool.{Bool, true, false, cond}
+use mathlib.Core.Option.{none, some}
+use mathlib.Core.List.{List, map}
+use Prim.Native.Nat.{ℕ, zero, suc, _+_, _≤_, _<_, min}
+use native.Mathlib.Nat.{not-suc-le-zero, le-of-suc-le-suc}
+use native.Mathlib.Omega.{arith}
+use lib.ListN.{length, getD, take, length-take}
+use lib.Seq.{getD-take, take-all, take-length}
+use borrow.Author.Tests.{eqb-true, eq-eqb, ne-eqb}
+use Rattle.lemmas.specs.Tests.{_is_}
+use Rattle.lemmas.specs.Lists.{find, missing}
+use Rattle.lemmas.specs.Loops.{find-hit, find-pass}
+use Rattle.rules.specs.declared.Object.{Object}
+use Rattle.rules.specs.Drive.{mostObjects}
+use Rattle.rules.specs.Operations.{noObject}
+use Rattle.state.specs.Padded.{padded-is}
+use Rattle.state.specs.Table.{tableSize, objectAt, from, places, countIn, heldIn, partitionIn, viewed, targetIn}
+
+-- ---- numbers in a row, mapped
+pub from-length : {A : Type 0} (f : ℕ → A) (a n : ℕ) → length (map f (from a n)) ≡ n
+from-length f a zero = refl
+from-length f a (suc n) = ap suc (from-length f (a + 1) n)
+
+pub from-at : {A : Type 0} (f : ℕ → A) (a n k : ℕ) (d : A) → k < n → getD (map f (from a n)) k d ≡ f (a + k)
+from-at f a zero k d h = absurd (not-suc-le-zero h)
+from-at f a (suc n) zero d h = let e : a ≡ a + 0 = omega arith in ap f e
+from-at f a (suc n) (suc k) d h =
+    let e : (a + 1) + k ≡ a + suc k = omega arith in from-at f (a + 1) n k d (le-of-suc-le-suc h) ∙ ap f e
+
+-- ---- the sixteen places
+pub places-length : (t : List ℕ) → length (places t) ≡ 16
+unfolding places
+places-length t = from-length (objectAt t) 0 16
+
+pub places-at : (t : List ℕ) (i : ℕ) → i < 16 → getD (places t) i noObject ≡ objectAt t i
+unfolding places
+places-at t i h = let e : 0 + i ≡ i = omega arith in from-at (objectAt t) 0 16 i noObject h ∙ ap (objectAt t) e
+
+-- ---- what is held
+pub held-length : (t : List ℕ) → length (heldIn t) ≡ min (countIn t) 16
+unfolding heldIn
+held-length t = length-take (countIn t) (places t) ∙ ap (min (countIn t)) (places-length t)
+
+-- a list that holds something is a table
+pub held-table : (t : List ℕ) → 0 < length (heldIn t) → length t ≡ tableSize
+held-table t h = go (length t is tableSize) refl (omega (arith, held-length t))
+  where
+    go : (b : Bool) → (length t is tableSize) ≡ b → 0 < cond b (getD t 2 0) 0 → length t ≡ tableSize
+    go true e m = eqb-true (length t) tableSize e
+    go false e m = absurd (not-suc-le-zero m)
+
+pub held-at : (t : List ℕ) (i : ℕ) → i < length (heldIn t) → getD (heldIn t) i noObject ≡ objectAt t i
+unfolding heldIn
+held-at t i h =
+    let n = held-length t in
+    getD-take (countIn t) (places t) i noObject (omega arith) ∙ places-at t i (omega arith)
+
+-- a table's count is the third of its numbers
+pub count-is : (t : List ℕ) → length t ≡ tableSize → countIn t ≡ getD t 2 0
+count-is t e = rw (eq-eqb (length t) tableSize e) refl
+
+-- a table whose count is within its places
+pub viewed-is : (t : List ℕ) → length t ≡ tableSize → getD t 2 0 ≤ mostObjects → viewed t ≡ partitionIn t
+unfolding viewed partitionIn heldIn
+viewed-is t e h = rw (padded-is mostObjects noObject (getD t 2 0) (places t) h, count-is t e) refl
+
+-- ---- a search by number that stands at place i
+module _ (t : List ℕ) (number i : ℕ) (more : i < length (heldIn t))
+    (none-yet : find Object.number number (take i (heldIn t)) ≡ none) where
+  number-at : getD (heldIn t) i noObject .number ≡ getD t (3 + i) 0
+  unfolding objectAt
+  number-at = ap Object.number (held-at t i more)
+
+  pub named-here : getD t (3 + i) 0 ≡ number
+      → targetIn (heldIn t) number ≡ record { missing = false; object = getD (heldIn t) i noObject }
+  unfolding targetIn missing
+  named-here e = rw found
+    where
+      found : find Object.number number (heldIn t) ≡ some (getD (heldIn t) i noObject)
+      found =
+          ap (find Object.number number) (sym (take-length (heldIn t)))
+          ∙ find-hit Object.number number (heldIn t) i noObject (length (heldIn t)) more more none-yet
+          (eq-eqb (getD (heldIn t) i noObject .number) number (number-at ∙ e))
+
+  pub named-later : (getD t (3 + i) 0 ≡ number → ⊥) → find Object.number number (take (i + 1) (heldIn t)) ≡ none
+  named-later n =
+      find-pass Object.number number (heldIn t) i noObject more none-yet
+      (ne-eqb (getD (heldIn t) i noObject .number) number (λ e. n (sym number-at ∙ e)))
+
+pub named-nowhere : (t : List ℕ) (number i : ℕ) → i ≡ length (heldIn t)
+    → find Object.number number (take i (heldIn t)) ≡ none
+    → targetIn (heldIn t) number ≡ record { missing = true; object = noObject }
+unfolding targetIn missing
+named-nowhere t number i e f =
+    let g : find Object.number number (heldIn t) ≡ none
+    = ap (find Object.number number) (sym (take-all i (heldIn t) (omega arith))) ∙ f in
+    rw g
