@@ -1,14 +1,14 @@
 -- What the code does at a grant is what the rules say, operation by operation, where everything has room.
 use mathlib.Core.Path.{_≡_, refl, sym, ap, subst, _∙_}
-use mathlib.Core.Bool.{Bool, true, false, _&&_, cond}
+use mathlib.Core.Bool.{Bool, true, false, cond}
 use mathlib.Core.Option.{Option, none, Option·getD}
 use mathlib.Core.List.{List, [], _∷_, _++_, append-nil, append-assoc}
 use Prim.Native.Nat.{ℕ, _+_, _*_, _≤_, _<_}
 use native.Mathlib.Omega.{arith}
 use lib.Dec.{leb}
 use lib.ListN.{length, take, getD, replicate, length-append, take-append-drop}
-use borrow.Author.Tests.{le-leb, lt-ltb, ne-eqb, eq-eqb}
-use Rattle.lemmas.specs.Tests.{_is_, _isnt_, _under_, both}
+use borrow.Author.Tests.{le-leb, lt-ltb, ne-eqb}
+use Rattle.lemmas.specs.Tests.{_is_, _isnt_}
 use Rattle.lemmas.specs.Lists.{part, splice, update}
 use Rattle.lemmas.specs.ListLaws.{nth-update}
 use Rattle.lemmas.specs.Parts.{length-part, length-splice, splice-front}
@@ -21,7 +21,7 @@ use Rattle.rules.specs.declared.Object.{Object}
 use Rattle.rules.specs.declared.Entry.{Entry}
 use Rattle.rules.specs.Frame as rules
 use Rattle.rules.specs.Frame.{Fields, fields, operation, operationOf, memory, entry}
-use Rattle.rules.specs.Drive.{Drive, Tables, Partition, Keys, quarter, mostEntries, mostObjects, unused}
+use Rattle.rules.specs.Drive.{Drive, Tables, Partition, quarter, unused}
 use Rattle.rules.specs.Operations.{
   home,
   named,
@@ -56,7 +56,7 @@ use Rattle.wire.specs.declared.Operation.{Operation}
 use Rattle.wire.specs.declared.Operation.the-variants.{Read, Write, Look, Raise, Create, Delete, SetKey}
 use Rattle.wire.specs.declared.ParsedRequest.{ParsedRequest}
 use Rattle.wire.specs.Parse.{operationNumber, firstNumber, secondNumber, requestTold}
-use Rattle.octets.specs.Numbers.{bytesPut, numberPut}
+use Rattle.octets.specs.Numbers.{numberPut}
 use Rattle.effect.specs.declared.Site.{Site}
 use Rattle.effect.specs.Effect.{nextOf, objectFrom, mediumPut}
 use Rattle.result.specs.Result.{resultPut}

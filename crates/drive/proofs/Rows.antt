@@ -2,30 +2,18 @@
 use mathlib.Core.Path.{_≡_, refl, sym, ap, subst, _∙_}
 use mathlib.Core.Bool.{Bool, true, false, cond}
 use mathlib.Core.List.{List, [], _∷_, _++_}
-use Prim.Native.Nat.{ℕ, _+_, _*_, _≤_, _<_}
+use Prim.Native.Nat.{ℕ, _+_, _≤_}
 use native.Mathlib.Omega.{arith}
 use lib.ListN.{length}
 use borrow.Author.Tests.{eqb-false, ltb-false, leb-true, not-true}
-use Rattle.lemmas.specs.Tests.{_is_, _isnt_, _under_, and-l, and-r, and-false}
+use Rattle.lemmas.specs.Tests.{_is_, _isnt_, and-l, and-r, and-false}
 use Rattle.lemmas.specs.ListLaws.{every-nth}
 use Rattle.lemmas.specs.Lists.{every}
 use Rattle.lemmas.specs.Rows.{Row, line, firstRow, numbered, applies, none-applies, row-next}
-use Rattle.rules.specs.declared.Object.{Object}
-use Rattle.rules.specs.Frame.{Fields, fields, operationOf, memory, write, create}
-use Rattle.rules.specs.Drive.{Drive, Tables, quarter, largestMedium, refresh, sound, mostEntries, lives}
-use Rattle.rules.specs.Operations.{home, objectOf, named, extentStart, startOf, replyLength}
-use Rattle.rules.specs.Rows.{
-  row1,
-  moves,
-  gives,
-  remembered,
-  row21,
-  row22,
-  row23,
-  frameRows,
-  driveRows,
-  rows,
-}
+use Rattle.rules.specs.Frame.{Fields, fields, operationOf, memory}
+use Rattle.rules.specs.Drive.{Drive, quarter, largestMedium, refresh, sound}
+use Rattle.rules.specs.Operations.{home, objectOf, named, extentStart, replyLength}
+use Rattle.rules.specs.Rows.{row1, gives, remembered, row21, row22, row23, frameRows, driveRows, rows}
 use Rattle.rules.proofs.Holds.{quarter-in, Grant}
 use Rattle.rules.proofs.Keeps.{small-of, tables-of, memories-of}
 use Rattle.rules.proofs.Sound.{SoundTables, SoundObject}

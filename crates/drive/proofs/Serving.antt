@@ -1,15 +1,15 @@
 -- What the code of `serve` and `grant` finds and does, in the rules' words: rows 8, 9 and the judged ones, and the parts of
 -- a grant. All of one share: its table is that of the frame's partition, its memory the frame's memory.
 use mathlib.Core.Path.{_≡_, refl, sym, ap, subst, _∙_}
-use mathlib.Core.Bool.{Bool, true, false, not, cond, true≢false}
-use mathlib.Core.Option.{Option, none, some, Option·getD}
+use mathlib.Core.Bool.{Bool, true, false, not, cond}
+use mathlib.Core.Option.{Option, none, some}
 use mathlib.Core.List.{List, [], _∷_, _++_}
-use Prim.Native.Nat.{ℕ, zero, suc, _+_, _-_, _*_, _≤_, _<_, max}
+use Prim.Native.Nat.{ℕ, _+_, _-_, _*_, _≤_, _<_, max}
 use native.Mathlib.Omega.{arith}
 use borrow.Rule.Slice.PartMut.{midOf}
-use lib.ListN.{length, getD, take, drop, replicate, getD-replicate}
+use lib.ListN.{length, take, drop, replicate, getD-replicate}
 use borrow.Author.Tests.{eq-eqb, ne-eqb, leb-true}
-use Rattle.lemmas.specs.Tests.{_is_, _isnt_, _under_}
+use Rattle.lemmas.specs.Tests.{_is_, _isnt_}
 use Rattle.lemmas.specs.Lists.{part, same, missing, keep, some?}
 use Rattle.lemmas.specs.Rows.{Row, line, firstRow, row-here, row-next}
 use Rattle.digest.specs.Hmac.{hmac}
@@ -17,17 +17,15 @@ use Rattle.digest.specs.declared.mac.Mac.{Mac}
 use Rattle.rules.specs.declared.Credential.{Credential}
 use Rattle.rules.specs.declared.Request.{Request}
 use Rattle.rules.specs.declared.Entry.{Entry}
-use Rattle.rules.specs.declared.Object.{Object}
 use Rattle.rules.specs.Frame.{Fields, fields, covered, operationOf, memory, entry}
 use Rattle.rules.specs.Drive as rules
-use Rattle.rules.specs.Drive.{quarter, largestMedium, lives, refresh, sound, sameEntry, mostObjects, mostEntries, unused}
-use Rattle.rules.specs.Operations.{home, keyIn, signing, credentialKey, digestOf, placeOf, replyLength, mediumAfter, reply, driveAfter}
+use Rattle.rules.specs.Drive.{quarter, largestMedium, lives, refresh, sound, sameEntry, mostEntries, unused}
+use Rattle.rules.specs.Operations.{home, keyIn, signing, credentialKey, digestOf, placeOf, replyLength, driveAfter}
 use Rattle.rules.specs.Rows.{row1, row8, row9, driveRows, remembered}
 use Rattle.rules.specs.Gate.{Answer, granted, refused}
 use Rattle.rules.proofs.Keeps.{small-of}
 use Rattle.wire.specs.declared.ParsedRequest.{ParsedRequest}
-use Rattle.wire.specs.declared.Parsed.the-variants.{Fields as Parsed·Fields}
-use Rattle.wire.specs.Parse.{requestTold, frameRow, told, parseOf}
+use Rattle.wire.specs.Parse.{requestTold, frameRow, told}
 use Rattle.wire.specs.ParseLaws.{fields-told}
 use Rattle.keyring.specs.Keys.{keysIn}
 use Rattle.effect.specs.declared.Site.{Site}
@@ -41,7 +39,7 @@ use Rattle.drive.specs.declared.Share.{Share}
 use Rattle.drive.specs.declared.Outcome.{Outcome}
 use Rattle.drive.specs.Share.{alone, admitted, Ready, Given}
 use Rattle.drive.specs.Site.{siteOf, Room, Granting}
-use Rattle.drive.proofs.Frames.{in-four, in-five, long}
+use Rattle.drive.proofs.Frames.{in-four, in-five}
 use Rattle.drive.proofs.Rows.{room}
 use Rattle.drive.proofs.Grants.{medium-is, reply-is, keys-is, partition-is, memory-is}
 

@@ -8,9 +8,9 @@ use lib.Dec.{leb}
 use lib.ListN.{length, getD, drop, set, length-take, length-drop}
 use borrow.Rule.Slice.PartMut.{midOf, putMid}
 use borrow.Author.Tests.{leb-true, eq-eqb}
-use Rattle.lemmas.specs.Tests.{_is_, _isnt_, _under_, both}
+use Rattle.lemmas.specs.Tests.{_is_}
 use Rattle.lemmas.specs.Lists.{every, keep, some?, update}
-use Rattle.lemmas.specs.ListLaws.{nth-map, every-nth, every-kept, every-imp, set-update}
+use Rattle.lemmas.specs.ListLaws.{nth-map, every-nth, set-update}
 use Rattle.rules.specs.declared.Entry.{Entry}
 use Rattle.rules.specs.declared.Object.{Object}
 use Rattle.rules.specs.declared.Credential.{Credential}
@@ -55,7 +55,7 @@ use Rattle.drive.specs.declared.Drive.{Drive}
 use Rattle.drive.specs.declared.Answer.{Answer}
 use Rattle.drive.specs.declared.Share.{Share}
 use Rattle.drive.specs.declared.Outcome.{Outcome}
-use Rattle.drive.specs.View.{view, tablesIn, memoriesIn, few, short, Placed, Counted}
+use Rattle.drive.specs.View.{view, tablesIn, memoriesIn, few, Placed, Counted}
 use Rattle.drive.specs.Share.{alone, admitted, Ready, Given}
 use Rattle.drive.specs.Met.{callOf, GateMet}
 use Rattle.drive.proofs.Frames.{in-four, in-five}

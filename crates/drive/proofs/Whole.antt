@@ -5,44 +5,20 @@ use mathlib.Core.Bool.{Bool, true, false, cond}
 use mathlib.Core.List.{List, [], _∷_}
 use Prim.Native.Nat.{ℕ, zero, suc, _<_}
 use native.Mathlib.Omega.{arith}
-use lib.ListN.{length, getD, replicate, getD-replicate}
-use borrow.Author.Tests.{eq-eqb, ne-eqb}
+use lib.ListN.{length, getD}
 use Rattle.lemmas.specs.Tests.{_is_}
 use Rattle.lemmas.specs.Lists.{update}
 use Rattle.lemmas.specs.ListLaws.{nth-update}
-use Rattle.lemmas.specs.Rows.{line, firstRow}
+use Rattle.lemmas.specs.Rows.{firstRow}
 use Rattle.rules.specs.declared.Object.{Object}
 use Rattle.rules.specs.declared.Entry.{Entry}
 use Rattle.rules.specs.Frame as rules
 use Rattle.rules.specs.Frame.{Fields, Operation, operationOf, memory}
-use Rattle.rules.specs.Drive.{Drive, Tables, Partition, quarter, unused}
-use Rattle.rules.specs.Operations.{
-  home,
-  named,
-  objectOf,
-  present,
-  extentStart,
-  placeOf,
-  startOf,
-  signing,
-  credentialKey,
-  digestOf,
-  keySet,
-  newKey,
-  raised,
-  created,
-  deleted,
-  result,
-  sealed,
-  reply,
-  tablesAfter,
-  mediumAfter,
-  remember,
-  driveAfter,
-}
+use Rattle.rules.specs.Drive.{Drive, Partition, quarter, unused}
+use Rattle.rules.specs.Operations.{home, named, objectOf, present, extentStart, placeOf, startOf, signing, credentialKey, digestOf, keySet, newKey, raised, created, deleted, result, reply, tablesAfter, mediumAfter, remember, driveAfter}
 use Rattle.rules.specs.Rows.{row8, row9, remembered, driveRows}
 use Rattle.rules.specs.Gate.{Answer, granted, refused}
-use Rattle.judge.specs.Judge.{judgeRows, rules-rows}
+use Rattle.judge.specs.Judge.{rules-rows}
 use Rattle.drive.specs.Share.{admitted}
 
 -- ---- one element of a list, changed

@@ -1,8 +1,8 @@
 -- Document 01, rows 10 to 23, of one partition and what is known of one replay memory, and that they are the rules' own.
 -- mark: the drive's time. p: the partition. replayed: whether the memory holds the frame's nonce. held: how many entries it
 -- has. c, r: the numbers of credential and request.
-use mathlib.Core.Path.{_≡_, refl, ap, sym, _∙_}
-use mathlib.Core.Bool.{Bool, true, false, not, _&&_, _||_, cond}
+use mathlib.Core.Path.{_≡_, refl}
+use mathlib.Core.Bool.{Bool, true, false, not, _&&_, cond}
 use mathlib.Core.Option.{Option, none, Option·getD}
 use mathlib.Core.List.{List, [], _∷_}
 use Prim.Native.Nat.{ℕ, _+_, _-_}
@@ -19,32 +19,7 @@ use Rattle.rules.specs.Drive as rules
 use Rattle.rules.specs.Drive.{Drive, quarter, mostObjects, mostEntries, sameEntry}
 use Rattle.rules.specs.BestFit.{extentStep, bestFit}
 use Rattle.rules.specs.Operations.{home, named, objectOf, present, placeOf, noObject, replyLength}
-use Rattle.rules.specs.Rows.{
-  expired,
-  untimely,
-  bit,
-  moves,
-  gives,
-  outOfRange,
-  row8,
-  row9,
-  row10,
-  row11,
-  remembered,
-  row12,
-  row13,
-  row14,
-  row15,
-  row16,
-  row17,
-  row18,
-  row19,
-  row20,
-  row21,
-  row22,
-  row23,
-  driveRows,
-}
+use Rattle.rules.specs.Rows.{expired, untimely, bit, moves, gives, outOfRange, row8, row9, row10, row11, remembered, row12, row13, row14, row15, row16, row17, row18, row19, row20, row21, row22, driveRows}
 use Rattle.state.specs.declared.Target.{Target}
 
 -- "A grant enters (slot, holder, T, count)"

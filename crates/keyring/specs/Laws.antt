@@ -78,16 +78,7 @@ module _ (ks : List ℕ) (e : length ks ≡ 462) where
   slot-key p (suc (suc (suc (suc zero)))) = refl
   slot-key p (suc (suc (suc (suc (suc slot))))) = sym (key-past ks 14 e (omega arith))
 
-pub key-in : (ks : List ℕ) (p slot : ℕ) → length ks ≡ 462
-    → keyIn (keysIn ks) p slot ≡ cond (placeOf slot p under 14) (keyAt ks (placeOf slot p)) none
-key-in ks p slot e = slot-key ks e p slot ∙ go (decLt (placeOf slot p) 14)
-  where
-    go : Dec (placeOf slot p < 14)
-        → keyAt ks (placeOf slot p) ≡ cond (placeOf slot p under 14) (keyAt ks (placeOf slot p)) none
-    go (yes h) = rw (lt-ltb (placeOf slot p) 14 h)
-    go (no h) = rw (le-ltb (placeOf slot p) 14 (omega arith)) (key-past ks (placeOf slot p) e (omega arith))
-
--- the same by the test that code makes
+-- by the test that code makes
 pub key-in-set : (ks : List ℕ) (p slot : ℕ) → length ks ≡ 462 → isSet ks (placeOf slot p) ≡ true
     → keyIn (keysIn ks) p slot ≡ some (part ks (32 * placeOf slot p) 32)
 key-in-set ks p slot e h = slot-key ks e p slot ∙ key-set ks (placeOf slot p) h
@@ -263,18 +254,6 @@ no-key i l = rw (getD-replicate {A = ℕ} 462 (448 + i) 0 0 (omega arith))
 
 pub keys-none : keysIn (replicate 462 0) ≡ rules.newKeys none none
 keys-none = keys-by (replicate 462 0) (λ (i : ℕ). none) no-key
-
-pub length-fresh : (master drive : List ℕ) → length (freshKeys master drive) ≡ 462
-unfolding freshKeys
-length-fresh master drive = go (length master is 32 && length drive is 32)
-  where
-    go : (b : Bool)
-        → length (cond b (keyPutAt 13 master (keyPutAt 12 drive (replicate 462 0))) (replicate 462 0)) ≡ 462
-    go true =
-        length-put 13 master (keyPutAt 12 drive (replicate 462 0))
-        ∙ length-put 12 drive (replicate 462 0)
-        ∙ length-replicate {A = ℕ} 462 0
-    go false = length-replicate {A = ℕ} 462 0
 
 pub fresh-set : (master drive : List ℕ) → length master ≡ 32 → length drive ≡ 32
     → keysIn (freshKeys master drive) ≡ rules.newKeys (some master) (some drive)

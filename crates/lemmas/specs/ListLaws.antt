@@ -8,7 +8,6 @@ use Prim.Native.Nat.{ℕ, zero, suc, _≤_, _<_}
 use native.Mathlib.Nat.{not-suc-le-zero, le-of-suc-le-suc}
 use native.Mathlib.Omega.{arith}
 use lib.ListN.{length, getD, set}
-use lib.Dec.{eqb}
 use borrow.Author.Tests.{eqb-true, eqb-false}
 use Rattle.lemmas.specs.Tests.{_is_, _isnt_, and-l, and-r, both, or-intro-l, or-intro-r}
 use Rattle.lemmas.specs.Lists.{every, some?, pairs, keep, update, find, change, missing}

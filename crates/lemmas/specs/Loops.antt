@@ -3,16 +3,15 @@ use mathlib.Core.Path.{_≡_, refl, sym, ap, _∙_}
 use mathlib.Core.Bool.{Bool, true, false, not, _&&_, _||_, cond, true≢false}
 use mathlib.Core.Option.{none, some}
 use mathlib.Core.List.{List, [], _∷_, _++_, map, append-nil}
-use Prim.Native.Nat.{ℕ, zero, suc, _+_, _≤_, _<_, min}
+use Prim.Native.Nat.{ℕ, zero, suc, _+_, _<_, min}
 use native.Mathlib.Nat.{not-suc-le-zero, le-of-suc-le-suc}
 use native.Mathlib.Numerals.{add-one}
 use native.Mathlib.Decide.{decLt}
 use native.Mathlib.Omega.{arith}
-use lib.ListN.{length, getD, take, set, length-map, length-take}
+use lib.ListN.{length, getD, take, set}
 use lib.Seq.{take-suc, take-suc-set, take-all}
-use borrow.Author.Tests.{lt-ltb, le-ltb}
-use Rattle.lemmas.specs.Tests.{_is_, _under_}
-use Rattle.lemmas.specs.Lists.{every, some?, pairs, keep, find, change}
+use Rattle.lemmas.specs.Tests.{_is_}
+use Rattle.lemmas.specs.Lists.{every, some?, pairs, keep, find}
 use Rattle.lemmas.specs.ListLaws.{map-append}
 
 or-false : (b : Bool) → (b || false) ≡ b
@@ -37,10 +36,6 @@ and-swap true false true d = refl
 and-swap true false false d = refl
 and-swap false b c d = refl
 
--- an array of structs in a struct: what owning it tells is a length of the mapped list
-pub unmapped : {A B : Type 0} (f : A → B) (l : List A) (n : ℕ) → length (map f l) ≡ n → length l ≡ n
-unmapped f l n e = sym (length-map l f) ∙ e
-
 module _ {A B : Type 0} where
   -- f over the elements, from the first on
   abbrev pub fold : (B → A → B) → B → List A → B
@@ -64,22 +59,6 @@ module _ {A : Type 0} where
         go : Dec (n < k) → take i l ≡ take n l
         go (yes h) = let p : i ≡ n = omega arith in ap (λ (i : ℕ). take i l) p
         go (no h) = take-all i l (omega arith) ∙ sym (take-all n l (omega arith))
-
-    pub length-within : length (take n l) ≡ min n k
-    length-within = length-take n l ∙ ap (λ (j : ℕ). min n j) e
-
-    -- one more at the end where there is room, and none where there is not
-    pub append-room : (a : A) → n < k
-        → take (n + 1) (set l n a) ≡ cond (length (take n l) under k) (take n l ++ (a ∷ [])) (take n l)
-    append-room a h =
-        let p : min n k ≡ n = omega arith in
-        rw (length-within, p, lt-ltb n k h, add-one) (take-suc-set l n a (omega arith))
-
-    pub append-full : (a : A) → k ≤ n
-        → take k l ≡ cond (length (take n l) under k) (take n l ++ (a ∷ [])) (take n l)
-    append-full a h =
-        let p : min n k ≡ k = omega arith in
-        rw (length-within, p, le-ltb k k (omega arith)) (take-within k (sym p))
 
   -- ---- one element more at the end of a list
   some-more : (t : A → Bool) (xs : List A) (x : A) → some? t (xs ++ (x ∷ [])) ≡ some? t xs || t x
@@ -193,10 +172,3 @@ pub map-took : {A B : Type 0} (f : A → B) (l : List A) (rs : List B) (i : ℕ)
     → take i rs ≡ map f (take i l) → x ≡ f (getD l i d) → take (i + 1) (set rs i x) ≡ map f (take (i + 1) l)
 map-took f l rs i d x h k e p =
     rw (take-more-set rs i x k, take-more l i d h, map-append f (take i l) (getD l i d ∷ []), e, p)
-
-pub change-took : {A : Type 0} (number : A → ℕ) (n : ℕ) (g : A → A) (l rs : List A) (i : ℕ) (d x : A)
-    → i < length l → i < length rs
-    → take i rs ≡ change number n g (take i l) → x ≡ cond (number (getD l i d) is n) (g (getD l i d)) (getD l i d)
-    → take (i + 1) (set rs i x) ≡ change number n g (take (i + 1) l)
-unfolding change
-change-took number n g l rs i d x h k e p = map-took (λ a. cond (number a is n) (g a) a) l rs i d x h k e p

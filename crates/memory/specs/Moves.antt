@@ -2,18 +2,17 @@
 -- es: the list as it was; xs: as it is, with i of es passed and k of them kept.
 use mathlib.Core.Path.{_≡_, sym, ap, _∙_}
 use mathlib.Core.Bool.{Bool, true, false}
-use mathlib.Core.List.{List, _++_, append-assoc}
+use mathlib.Core.List.{List}
 use Prim.Native.Nat.{ℕ, _+_, _-_, _≤_, _<_}
 use native.Mathlib.Omega.{arith}
-use lib.ListN.{length, getD, take, drop, set, take-append-drop}
-use lib.Seq.{drop-drop, drop-set-lt, getD-drop, length-take-le, take-all, take-at, drop-at, drop-append-le}
+use lib.ListN.{length, getD, take, drop, set}
+use lib.Seq.{drop-drop, drop-set-lt, getD-drop, length-take-le, take-all}
 use Rattle.lemmas.specs.Lists.{keep}
-use Rattle.lemmas.specs.ListLaws.{length-keep}
 use Rattle.lemmas.specs.Loops.{keep-took, keep-passed}
 use Rattle.rules.specs.declared.Entry.{Entry}
 use Rattle.rules.specs.Drive.{lives}
 use Rattle.memory.specs.Memory.{entries, noEntry, lives-yes, lives-no}
-use Rattle.memory.specs.Entries.{entries-at, entries-set, entries-take, entries-drop, entries-append}
+use Rattle.memory.specs.Entries.{entries-at, entries-set, entries-drop}
 
 -- a store at k leaves what stands behind it
 pub stored-back : {A : Type 0} (es xs : List A) (k : ℕ) (a : A) → drop k xs ≡ drop k es

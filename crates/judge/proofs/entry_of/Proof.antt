@@ -1,6 +1,5 @@
 use mathlib.Core.Path.{refl}
 use Rattle.judge.specs.Judge.{entryOf}
-use borrow.Author.Needs.{needs}
 use Rattle.judge.proofs.entry_of.Statement.{statement}
 use Rattle.judge.proofs.entry_of.Tie as tie
 

@@ -1,5 +1,4 @@
 -- By the operation.
-use mathlib.Core.Path.{_∙_}
 use borrow.Author.Tests.{eq-eqb, ne-eqb}
 use borrow.Author.Needs.{needs}
 use Rattle.judge.proofs.place_for.Statement.{statement}

@@ -1,6 +1,5 @@
 -- Fewer lines are left after each turn; the buffers stay as long as they were.
 use mathlib.Core.Path.{_≡_, refl, _∙_}
-use native.Mathlib.Omega.{arith}
 use lib.ListN.{length}
 use borrow.Author.Needs.{needs}
 use Rattle.scenario.proofs.play.Statement.{statement}

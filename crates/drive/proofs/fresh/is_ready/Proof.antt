@@ -1,9 +1,8 @@
 -- Row 1's test, part by part.
-use mathlib.Core.Path.{_≡_, sym, _∙_}
 use mathlib.Core.Bool.{true, _&&_, false≢true}
 use native.Mathlib.Omega.{arith}
 use borrow.Author.Tests.{le-leb, lt-leb}
-use Rattle.lemmas.specs.Tests.{_is_, and-l, and-r}
+use Rattle.lemmas.specs.Tests.{_is_, and-l}
 use Rattle.rules.specs.Drive.{largestMedium}
 use borrow.Author.Needs.{needs}
 use Rattle.drive.proofs.fresh.is_ready.Statement.{statement}

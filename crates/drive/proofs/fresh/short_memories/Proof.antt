@@ -1,8 +1,8 @@
 -- r tells of the first i lengths (every-take).
 use mathlib.Core.Path.{_≡_, refl}
-use Prim.Native.Nat.{_-_, _≤_, _<_}
+use Prim.Native.Nat.{_-_, _≤_}
 use native.Mathlib.Omega.{arith}
-use lib.ListN.{length, take}
+use lib.ListN.{take}
 use lib.Seq.{take-all}
 use Rattle.lemmas.specs.Lists.{every}
 use Rattle.lemmas.specs.Loops.{every-take}

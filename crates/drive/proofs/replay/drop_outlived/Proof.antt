@@ -1,16 +1,14 @@
 -- The first m memories are without outlived entries (turn, memory-dropped); the places of a memory are one part of each array.
-use mathlib.Core.Path.{_≡_, refl, sym, ap, _∙_}
-use mathlib.Core.List.{List, [], _++_}
+use mathlib.Core.Path.{_≡_, refl, _∙_}
+use mathlib.Core.List.{List, []}
 use Prim.Native.Nat.{ℕ, _+_, _-_, _*_, _≤_, _<_}
 use native.Mathlib.Omega.{arith}
-use lib.ListN.{length, getD, take, drop}
-use borrow.Author.Tests.{leb-true}
+use lib.ListN.{length, getD}
 use Rattle.lemmas.specs.Lists.{keep}
-use Rattle.lemmas.specs.ListLaws.{every-nth}
 use Rattle.rules.specs.declared.Entry.{Entry}
 use Rattle.rules.specs.Drive.{lives, mostEntries}
 use Rattle.memory.specs.Memory.{entries}
-use Rattle.drive.specs.View.{memoriesIn, short, Placed}
+use Rattle.drive.specs.View.{memoriesIn, Placed}
 use Rattle.drive.proofs.Turned.{turned, turned-all, turn}
 use Rattle.drive.proofs.Memories.{memories-length, short-at, purged-at, placed-still}
 use borrow.Author.Needs.{needs}

@@ -1,5 +1,5 @@
 -- The part lent is the request and the data (request-and-data).
-use mathlib.Core.Path.{_≡_, ap, _∙_}
+use mathlib.Core.Path.{ap, _∙_}
 use mathlib.Core.List.{List}
 use Prim.Native.Nat.{ℕ}
 use Rattle.set_key.specs.Keys.{keysAfter}

@@ -1,5 +1,5 @@
 -- By the level.
-use mathlib.Core.Path.{_≡_, ap, _∙_}
+use mathlib.Core.Path.{ap, _∙_}
 use mathlib.Core.List.{_++_, append-assoc}
 use borrow.Author.Tests.{eq-eqb, ne-eqb}
 use Rattle.digest.specs.Hmac.{hmac}

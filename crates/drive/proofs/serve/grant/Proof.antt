@@ -1,8 +1,6 @@
 -- What each function gave, in the rules' words (Serving).
-use mathlib.Core.Path.{_≡_, refl, sym, ap, _∙_}
-use mathlib.Core.List.{List, _++_}
-use Prim.Native.Nat.{ℕ}
-use native.Mathlib.Omega.{arith}
+use mathlib.Core.Path.{refl, ap, _∙_}
+use mathlib.Core.List.{_++_}
 use Rattle.rules.specs.Frame.{fields}
 use Rattle.rules.specs.Gate.{granted}
 use Rattle.rules.specs.Operations.{credentialKey, replyLength}

@@ -1,8 +1,6 @@
 -- The parts of the frame are its slices.
-use mathlib.Core.Path.{_≡_, sym, ap, _∙_}
 use Rattle.lemmas.specs.Lists.{same}
-use Rattle.digest.specs.Hmac.{hmac}
-use Rattle.rules.specs.Frame.{fields, covered}
+use Rattle.rules.specs.Frame.{fields}
 use Rattle.drive.proofs.Frames.{the-payload, the-digest}
 use borrow.Author.Needs.{needs}
 use Rattle.drive.proofs.serve.is_signed.Statement.{statement}

@@ -1,5 +1,4 @@
 -- Everything as its function gave it.
-use mathlib.Core.Path.{_≡_}
 use Prim.Native.Nat.{_*_, _/_, _≤_}
 use native.Mathlib.Nat.{mul-le-mul}
 use native.Mathlib.Omega.{arith}
