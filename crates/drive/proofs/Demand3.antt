@@ -11,7 +11,7 @@ use Rattle.rules.specs.Demands as rules
 use Rattle.rules.specs.Demands.{Agrees, answer, asks, bytesOf, State}
 use Rattle.rules.specs.Drive.{format}
 use Rattle.rules.specs.Gate.{Call}
-use Rattle.rules.specs.Ledger.{clocked, Ledger, ledger, start, tablesOf}
+use Rattle.rules.specs.Ledger.{bareScope, clocked, Ledger, ledger, ledgerScope, start}
 use Rattle.rules.specs.Rows.{bounds}
 use Rattle.rules.proofs.Demand as rules·proofs
 use Rattle.drive.specs.Chain.{after, AllOfDemand3, book, Chain, Demand3, Done, Granted, Left, seen}
@@ -61,14 +61,14 @@ module _ (M : ℕ) (s : Left) (l : Ledger) (calls : List Done) (k : Chain s call
         (subst (λ (r : List Call). rules.Granted (seen s) r (c .call)) (calls-append before (b ∷ between))
         (granted (before ++ (b ∷ between)) later c (e ∙ regroup before between later b c) gc));
     kept = λ before later c e g.
-        subst (λ (b : Ledger). firstRow (bounds (tablesOf (clocked (c .call .clock) b)) (asks (c .call))) ≡ 0)
+        subst (λ (b : Ledger). firstRow (bounds (bareScope (ledgerScope M (clocked (c .call .clock) b) (asks (c .call) .cred)))
+        (asks (c .call))) ≡ 0)
         (booked before (c ∷ later) e)
         (t .kept (callsOf before) (callsOf later) (c .call) (split before later c e) (granted before later c e g));
-    shown = λ before later c e g o.
-        subst₂ (λ (r : List ℕ) (b : Ledger). part r 8 (asks (c .call) .req .B)
-        ≡ part (bytesOf b (asks (c .call))) (asks (c .call) .req .A) (asks (c .call) .req .B))
+    shown = λ before later c A B e g o.
+        subst₂ (λ (r : List ℕ) (b : Ledger). part r 8 B ≡ part (bytesOf b (asks (c .call))) A B)
         (spaced before later c e) (booked before (c ∷ later) e)
-        (t .shown (callsOf before) (callsOf later) (c .call) (split before later c e) (granted before later c e g) o);
+        (t .shown (callsOf before) (callsOf later) (c .call) A B (split before later c e) (granted before later c e g) o);
     agrees = λ before later e.
         subst₂ (Agrees M) (chain-after s before later (chain-of before later e)) (booked before later e)
         (t .agrees (callsOf before) (callsOf later) (ap callsOf e ∙ calls-append before later));

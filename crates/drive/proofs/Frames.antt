@@ -36,7 +36,7 @@ module _ (f : List ℕ) (z : frameRow f ≡ 0) where
   pub in-four : fields f .cred .partition < 4
   in-four = low-partition (fields f) clear4
 
-  pub in-five : memory (fields f) < 5
+  pub in-five : memory (fields f .cred) < 5
   in-five = low-memory (fields f) clear4
 
 -- ---- the parts

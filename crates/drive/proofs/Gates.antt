@@ -12,18 +12,21 @@ use Rattle.lemmas.specs.Rows.{Row, line, firstRow, row-here, row-isnt}
 use Rattle.rules.specs.Frame.{Fields, fields}
 use Rattle.rules.specs.Drive as rules
 use Rattle.rules.specs.Drive.{refresh, sound}
-use Rattle.rules.specs.Rows.{row1, frameRows, driveRows, rows}
+use Rattle.rules.specs.declared.Object.{Object}
+use Rattle.rules.specs.Scope.{Scope, driveScope}
+use Rattle.rules.specs.Rows.{row1, frameRows, driveRows, scopeRows, rows}
 use Rattle.rules.specs.Gate as rules·gate
-use Rattle.rules.specs.Gate.{Call, gate, granted, refused, left}
+use Rattle.rules.specs.Gate.{Call, gate, granted, refused, afterRefusal, wholeAnswer}
 use Rattle.rules.proofs.Answers.{gate-granted, gate-refused, ready-left}
 use Rattle.rules.proofs.Keeps.{gate-sound}
 use Rattle.wire.specs.Parse.{frameRow}
 use Rattle.drive.specs.declared.Drive.{Drive}
 use Rattle.drive.specs.declared.Answer.{Answer}
 use Rattle.drive.specs.View.{view}
-use Rattle.drive.specs.Share.{admitted}
+use Rattle.drive.specs.Share.{scopeAnswer}
 use Rattle.drive.specs.Met.{callOf, GateMet}
 use Rattle.drive.proofs.Rows.{past-frame, by-frame}
+use Rattle.drive.proofs.Whole.{restored}
 
 -- ---- the rules' answer
 module _ (d : rules.Drive) (m f : List ℕ) (clock : ℕ) (space : List ℕ) where
@@ -35,9 +38,9 @@ module _ (d : rules.Drive) (m f : List ℕ) (clock : ℕ) (space : List ℕ) whe
   unfolding rows
   gate-unready h =
       let r : firstRow (rows d m f clock space) ≡ 1 = row-here (line 1 (row1 d m))
-      (frameRows f (fields f) ++ driveRows (refresh clock d) (fields f) space) h in
+      (frameRows f (fields f) ++ driveRows (driveScope (refresh clock d) (fields f .cred)) (fields f) space) h in
       gate-refused d m c (λ z. let k : _≡_ {A = ℕ} 0 1 = sym z ∙ r in omega arith)
-      ∙ ap (λ (n : ℕ). refused n (left n clock d) m space) r
+      ∙ ap (λ (n : ℕ). refused n (afterRefusal n clock d) m space) r
 
   module _ (ready : row1 d m ≡ false) where
     -- rows 2 to 7
@@ -49,23 +52,31 @@ module _ (d : rules.Drive) (m f : List ℕ) (clock : ℕ) (space : List ℕ) whe
         ∙ ap (λ (n : ℕ). refused n (refresh clock d) m space) r
 
     -- row 8 and on
-    pub gate-admitted : frameRow f ≡ 0 → gate d m c ≡ admitted (refresh clock d) m (fields f) space
-    unfolding admitted
+    pub gate-admitted : frameRow f ≡ 0 → gate d m c ≡ wholeAnswer (fields f .cred) (refresh clock d)
+        (scopeAnswer (driveScope (refresh clock d) (fields f .cred)) m (fields f) space)
+    unfolding scopeAnswer
     gate-admitted z = go (firstRow later is 0) refl
       where
+        e : rules.Drive
+        e = refresh clock d
+
+        s : Scope Object
+        s = driveScope e (fields f .cred)
+
         later : List Row
-        later = driveRows (refresh clock d) (fields f) space
+        later = driveRows s (fields f) space
 
         r : firstRow (rows d m f clock space) ≡ firstRow later
         r = past-frame d m f clock space ready z
 
-        go : (b : Bool) → (firstRow later is 0) ≡ b → gate d m c
-            ≡ cond b (granted (refresh clock d) m (fields f) space) (refused (firstRow later) (refresh clock d) m space)
+        go : (b : Bool) → (firstRow later is 0) ≡ b → gate d m c ≡ wholeAnswer (fields f .cred) e
+            (cond b (granted s m (fields f) space) (refused (firstRow later) s m space))
         go true h = gate-granted d m c (r ∙ eqb-true (firstRow later) 0 h)
         go false h =
             gate-refused d m c (λ k. eqb-false (firstRow later) 0 h (sym r ∙ k))
             ∙ ap (λ (e : rules.Drive). refused (firstRow (rows d m f clock space)) e m space) (ready-left d m c ready)
-            ∙ ap (λ (n : ℕ). refused n (refresh clock d) m space) r
+            ∙ ap (λ (n : ℕ). refused n e m space) r
+            ∙ ap (λ (e : rules.Drive). refused (firstRow later) e m space) (sym (restored e (fields f .cred)))
 
 -- ---- none of rows 2 on is row 1
 pub frame-not-1 : (f : List ℕ) → frameRow f ≡ 1 → ⊥
@@ -73,20 +84,20 @@ unfolding frameRow frameRows every
 frame-not-1 f e = eqb-false (frameRow f) 1 (row-isnt 1 (frameRows f (fields f)) refl refl) e
 
 -- ---- from row 8 on: row 0 where no row applies, and a refusal leaves the drive
-module _ (d : rules.Drive) (m : List ℕ) (x : Fields) (space : List ℕ) where
+module _ (d : Scope Object) (m : List ℕ) (x : Fields) (space : List ℕ) where
   abbrev lowest : ℕ
   lowest = firstRow (driveRows d x space)
 
-  pub admitted-zero : admitted d m x space .row ≡ 0 → lowest ≡ 0
-  unfolding admitted
+  pub admitted-zero : scopeAnswer d m x space .row ≡ 0 → lowest ≡ 0
+  unfolding scopeAnswer
   admitted-zero e = go (lowest is 0) refl e
     where
       go : (b : Bool) → (lowest is 0) ≡ b → cond b (granted d m x space) (refused lowest d m space) .row ≡ 0 → lowest ≡ 0
       go true h k = eqb-true lowest 0 h
       go false h k = k
 
-  pub admitted-refused : (admitted d m x space .row ≡ 0 → ⊥) → admitted d m x space .drive ≡ d
-  unfolding admitted granted
+  pub admitted-refused : (scopeAnswer d m x space .row ≡ 0 → ⊥) → scopeAnswer d m x space .drive ≡ d
+  unfolding scopeAnswer granted
   admitted-refused z = go (lowest is 0) z
     where
       go : (b : Bool) → (cond b (granted d m x space) (refused lowest d m space) .row ≡ 0 → ⊥)
@@ -94,8 +105,8 @@ module _ (d : rules.Drive) (m : List ℕ) (x : Fields) (space : List ℕ) where
       go true k = absurd (k refl)
       go false k = refl
 
-pub drive-not-1 : (d : rules.Drive) (m : List ℕ) (x : Fields) (space : List ℕ) → admitted d m x space .row ≡ 1 → ⊥
-unfolding admitted driveRows every granted
+pub drive-not-1 : (d : Scope Object) (m : List ℕ) (x : Fields) (space : List ℕ) → scopeAnswer d m x space .row ≡ 1 → ⊥
+unfolding scopeAnswer driveRows scopeRows every granted
 drive-not-1 d m x space e = go (firstRow (driveRows d x space) is 0) e
   where
     go : (b : Bool) → cond b (granted d m x space) (refused (firstRow (driveRows d x space)) d m space) .row ≡ 1 → ⊥
@@ -103,18 +114,18 @@ drive-not-1 d m x space e = go (firstRow (driveRows d x space) is 0) e
     go false k = eqb-false (firstRow (driveRows d x space)) 1 (row-isnt 1 (driveRows d x space) refl refl) k
 
 -- ---- a return of the code that is the rules' answer a meets the promise
-pub meets : (d : Drive) (m : List ℕ) (c : Call) (r : Answer) (after replied : List ℕ) (a : rules·gate.Answer)
+pub meets : (d : Drive) (m : List ℕ) (c : Call) (r : Answer) (after replied : List ℕ) (a : rules·gate.Answer rules.Drive)
     → gate (view d) m c ≡ a → r .row ≡ a .row → r .length ≡ a .length → view (r .drive) ≡ a .drive
     → (r .row ≡ 1 → r .drive ≡ d) → after ≡ a .medium → replied ≡ a .space → GateMet d m c r after replied
 meets d m c r after replied a g row length drive unchanged medium space = record {
-  row = row ∙ sym (ap (λ (b : rules·gate.Answer). b .row) g);
-  length = length ∙ sym (ap (λ (b : rules·gate.Answer). b .length) g);
+  row = row ∙ sym (ap (λ (b : rules·gate.Answer rules.Drive). b .row) g);
+  length = length ∙ sym (ap (λ (b : rules·gate.Answer rules.Drive). b .length) g);
   drive = whole;
   unchanged = unchanged;
-  medium = medium ∙ sym (ap (λ (b : rules·gate.Answer). b .medium) g);
-  space = space ∙ sym (ap (λ (b : rules·gate.Answer). b .space) g);
+  medium = medium ∙ sym (ap (λ (b : rules·gate.Answer rules.Drive). b .medium) g);
+  space = space ∙ sym (ap (λ (b : rules·gate.Answer rules.Drive). b .space) g);
   sound = λ h. ap sound whole ∙ gate-sound (view d) m c h;
 }
   where
     whole : view (r .drive) ≡ gate (view d) m c .drive
-    whole = drive ∙ sym (ap (λ (b : rules·gate.Answer). b .drive) g)
+    whole = drive ∙ sym (ap (λ (b : rules·gate.Answer rules.Drive). b .drive) g)

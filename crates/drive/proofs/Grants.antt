@@ -9,8 +9,7 @@ use lib.Dec.{leb}
 use lib.ListN.{length, take, getD, replicate, length-append, take-append-drop}
 use borrow.Author.Tests.{le-leb, lt-ltb, ne-eqb}
 use Rattle.lemmas.specs.Tests.{_is_, _isnt_}
-use Rattle.lemmas.specs.Lists.{part, splice, update}
-use Rattle.lemmas.specs.ListLaws.{nth-update}
+use Rattle.lemmas.specs.Lists.{part, splice}
 use Rattle.lemmas.specs.Parts.{length-part, length-splice, splice-front}
 use Rattle.lemmas.specs.Layout.{splice-after-size}
 use Rattle.lemmas.specs.BigEndian.{bigEndian, length-bigEndian}
@@ -18,19 +17,17 @@ use Rattle.digest.specs.Hmac.{hmac}
 use Rattle.digest.specs.Laws.{length-hmac}
 use Rattle.rules.specs.declared.Request.{Request}
 use Rattle.rules.specs.declared.Object.{Object}
-use Rattle.rules.specs.declared.Entry.{Entry}
-use Rattle.rules.specs.Frame as rules
-use Rattle.rules.specs.Frame.{Fields, fields, operation, operationOf, memory, entry}
-use Rattle.rules.specs.Drive.{Drive, Tables, Partition, quarter, unused}
+use Rattle.rules.specs.Frame.{Fields, fields, operation, operationOf}
+use Rattle.rules.specs.Drive.{Partition, quarter}
+use Rattle.rules.specs.Scope.{Scope}
 use Rattle.rules.specs.Operations.{
-  home,
   named,
   objectOf,
   present,
+  quarterStart,
   extentStart,
   placeOf,
   startOf,
-  result,
   resultLength,
   replyLength,
   head,
@@ -44,16 +41,13 @@ use Rattle.rules.specs.Operations.{
   raised,
   created,
   deleted,
-  tablesAfter,
-  mediumAfter,
-  remember,
-  driveAfter,
+  perform,
 }
-use Rattle.rules.specs.Rows.{moves, gives, remembered}
-use Rattle.rules.proofs.Clear.{known, code-of}
+use Rattle.rules.specs.Rows.{moves, gives}
+use Rattle.rules.proofs.Clear.{asks-for}
 use Rattle.rules.proofs.Shown.{result-length}
-use Rattle.wire.specs.declared.Operation.{Operation}
-use Rattle.wire.specs.declared.Operation.the-variants.{Read, Write, Look, Raise, Create, Delete, SetKey}
+use Rattle.rules.specs.declared.Operation.{Operation}
+use Rattle.rules.specs.declared.Operation.the-variants.{Read, Write, Look, Raise, Create, Delete, SetKey}
 use Rattle.wire.specs.declared.ParsedRequest.{ParsedRequest}
 use Rattle.wire.specs.Parse.{operationNumber, firstNumber, secondNumber, requestTold}
 use Rattle.octets.specs.Numbers.{numberPut}
@@ -65,49 +59,38 @@ use Rattle.sealed_reply.specs.Reply.{sealPut, resultReply, replyPut}
 use Rattle.partition.specs.Partition.{raisedTo, createdTo, partitionAfter}
 use Rattle.drive.specs.Site.{siteOf, Room}
 
--- the rules' name of an operation
-abbrev pub nameOf : Operation → rules.Operation
-nameOf (Read a b) = rules.read
-nameOf (Write a b) = rules.write
-nameOf Look = rules.look
-nameOf Raise = rules.raise
-nameOf (Create number size) = rules.create
-nameOf Delete = rules.delete
-nameOf (SetKey target) = rules.setKey
-
-name-of : (o : Operation) → operation (operationNumber o) ≡ nameOf o
-unfolding operation
-name-of (Read a b) = refl
-name-of (Write a b) = refl
-name-of Look = refl
-name-of Raise = refl
-name-of (Create number size) = refl
-name-of Delete = refl
-name-of (SetKey target) = refl
+-- the operation of a parsed request's numbers is its own
+told-operation : (q : ParsedRequest) → operation (requestTold q) ≡ q .operation
+unfolding operation requestTold
+told-operation q = go (q .operation)
+  where
+    go : (o : Operation) → getD (Look ∷ Read (firstNumber o) (secondNumber o) ∷ Write (firstNumber o) (secondNumber o)
+        ∷ Look ∷ Raise ∷ Create (firstNumber o) (secondNumber o) ∷ Delete ∷ SetKey (firstNumber o) ∷ [])
+        (operationNumber o) Look ≡ o
+    go (Read a b) = refl
+    go (Write a b) = refl
+    go Look = refl
+    go Raise = refl
+    go (Create number size) = refl
+    go Delete = refl
+    go (SetKey target) = refl
 
 -- nothing put anywhere
 splice-none : (s : List ℕ) → splice s 8 [] ≡ s
 unfolding splice
 splice-none s = take-append-drop 8 s
 
-module _ (d : Drive) (m f space : List ℕ) (q : ParsedRequest) (e : requestTold q ≡ fields f .req)
-    (w : Room d m (fields f) space) (start : Option ℕ)
-    (placed : start ≡ cond (fields f .req .operation isnt 5) none
-    (placeOf (quarter (d .size)) (d .tables) (fields f))) where
+module _ (v : Scope Object) (M : ℕ) (q-is : v .quarter ≡ quarter M) (m f space : List ℕ) (q : ParsedRequest)
+    (e : requestTold q ≡ fields f .req) (w : Room v m (fields f) space) (start : Option ℕ)
+    (placed : start ≡ cond (fields f .req .operation isnt 5) none (placeOf v (fields f .req .B))) where
   abbrev x : Fields
   x = fields f
 
-  abbrev t : Tables Object
-  t = d .tables
-
-  abbrev Q : ℕ
-  Q = quarter (d .size)
-
   abbrev P : Partition Object
-  P = home t x
+  P = v .partition
 
   abbrev s : Site
-  s = siteOf (d .size) P (x .cred) start
+  s = siteOf M P (x .cred) start
 
   -- the request's numbers are the operation's
   number-is : x .req .operation ≡ operationNumber (q .operation)
@@ -122,8 +105,8 @@ module _ (d : Drive) (m f space : List ℕ) (q : ParsedRequest) (e : requestTold
   unfolding requestTold
   second-is = sym (ap Request.B e)
 
-  pub name-is : operationOf x ≡ nameOf (q .operation)
-  name-is = ap operation number-is ∙ name-of (q .operation)
+  pub name-is : operationOf x ≡ q .operation
+  name-is = ap operation (sym e) ∙ told-operation q
 
   -- the operation is o, and carries the request's numbers
   pub record Is (o : Operation) : Type 0 where
@@ -134,39 +117,28 @@ module _ (d : Drive) (m f space : List ℕ) (q : ParsedRequest) (e : requestTold
   asked : Is (q .operation)
   asked = record { number = number-is; first = first-is; second = second-is }
 
-  name : (o : Operation) → Is o → operationOf x ≡ nameOf o
-  name o i = ap operation (i .number) ∙ name-of o
-
   -- ---- the medium
-  cleared-at : (from n k : ℕ) → k ≡ n → from + n ≤ length m
-      → cond (leb (from + n) (length m)) (splice m from (replicate n 0)) m ≡ splice m from (replicate k 0)
-  cleared-at from n k e h = rw (le-leb (from + n) (length m) h, e) refl
-
-  medium-by : (o : Operation) → Is o → mediumPut o s (x .payload) m ≡ mediumAfter (nameOf o) Q x t m
-  unfolding mediumAfter siteOf extentStart objectOf named startOf
-  medium-by (Read a b) i = refl
-  medium-by (Write a b) i =
+  medium-by : (o : Operation) → Is o → operationOf x ≡ o → mediumPut o s (x .payload) m ≡ perform o v x m .medium
+  unfolding perform siteOf extentStart objectOf named startOf
+  medium-by (Read a b) i n = refl
+  medium-by (Write a b) i n =
       let mv : moves (x .req) ≡ true = rw (i .number) refl in
-      let l : length (x .payload) ≡ x .req .B = w .payload (name (Write a b) i) in
+      let l : length (x .payload) ≡ b = w .payload a b n in
       rw (
-        le-leb (objectFrom s + s .size) (length m) (w .extent mv),
-        le-leb (a + length (x .payload)) (s .size) (omega (arith, w .inside mv, i .first)),
-        i .first,
+        ← q-is,
+        le-leb (quarterStart v (x .cred) + objectOf v (x .cred) .start + objectOf v (x .cred) .size) (length m) (w .extent mv),
+        le-leb (a + length (x .payload)) (objectOf v (x .cred) .size) (omega (arith, w .inside mv, i .first, i .second)),
       ) refl
-  medium-by Look i = refl
-  medium-by Raise i = refl
-  medium-by (Create number size) i =
-      let p : start ≡ placeOf Q t x = placed ∙ rw (i .number) refl in
-      let from : ℕ = x .cred .partition * Q + startOf Q t x in
-      ap (λ (p : Option ℕ). cond (leb (x .cred .partition * Q + Option·getD p 0 + size) (length m))
-      (splice m (x .cred .partition * Q + Option·getD p 0) (replicate size 0)) m) p
-      ∙ cleared-at from size (x .req .B) (i .second)
-      (subst (λ (n : ℕ). from + n ≤ length m) (i .second) (w .cleared (name (Create number size) i)))
-  medium-by Delete i = refl
-  medium-by (SetKey target) i = refl
+  medium-by Look i n = refl
+  medium-by Raise i n = refl
+  medium-by (Create number size) i n =
+      let p : start ≡ placeOf v size = placed ∙ rw (i .number, i .second) refl in
+      rw (← q-is, p, le-leb (quarterStart v (x .cred) + startOf v size + size) (length m) (w .cleared number size n)) refl
+  medium-by Delete i n = refl
+  medium-by (SetKey target) i n = refl
 
-  pub medium-is : mediumPut (q .operation) s (x .payload) m ≡ mediumAfter (operationOf x) Q x t m
-  medium-is = medium-by (q .operation) asked ∙ ap (λ (o : rules.Operation). mediumAfter o Q x t m) (sym name-is)
+  pub medium-is : mediumPut (q .operation) s (x .payload) m ≡ perform (operationOf x) v x m .medium
+  medium-is = medium-by (q .operation) asked name-is ∙ ap (λ (o : Operation). perform o v x m .medium) (sym name-is)
 
   -- ---- the result
   -- the next version is one more: row 21 refused the last
@@ -177,16 +149,15 @@ module _ (d : Drive) (m f space : List ℕ) (q : ParsedRequest) (e : requestTold
   put-number r i v h = rw (le-leb (i + 4) (length r) h) refl
 
   result-by : (o : Operation) → Is o → (r : List ℕ) → 8 + resultLength (x .req) ≤ length r
-      → resultPut o s m r ≡ splice r 8 (result (nameOf o) Q t x m)
-  unfolding result siteOf extentStart objectOf named present
+      → resultPut o s m r ≡ splice r 8 (perform o v x m .result)
+  unfolding perform siteOf extentStart objectOf named present
   result-by (Read a b) i r h =
       let mv : moves (x .req) ≡ true = rw (i .number) refl in
       let n : resultLength (x .req) ≡ x .req .B = rw (i .number) refl in
       rw (
-        le-leb (objectFrom s + a + b) (length m) (omega (arith, w .extent mv, w .inside mv, i .first, i .second)),
+        ← q-is,
+        le-leb (extentStart v (x .cred) + a + b) (length m) (omega (arith, w .extent mv, w .inside mv, i .first, i .second)),
         le-leb (8 + b) (length r) (omega (arith, n, i .second)),
-        i .first,
-        i .second,
       ) refl
   result-by (Write a b) i r h = sym (splice-none r)
   result-by Look i r h =
@@ -199,6 +170,7 @@ module _ (d : Drive) (m f space : List ℕ) (q : ParsedRequest) (e : requestTold
       ap (λ (l : List ℕ). numberPut l 12 4 (s .version)) (put-number r 8 (s .told) (omega arith))
       ∙ put-number (splice r 8 a) 12 (s .version) (omega arith)
       ∙ splice-after-size r a b 8 12 (omega arith) (omega arith)
+      ∙ rw (← q-is) refl
   result-by Raise i r h =
       let n : resultLength (x .req) ≡ 4 = rw (i .number) refl in
       put-number r 8 (nextOf (P .last)) (omega arith)
@@ -211,30 +183,28 @@ module _ (d : Drive) (m f space : List ℕ) (q : ParsedRequest) (e : requestTold
   result-by (SetKey target) i r h = sym (splice-none r)
 
   abbrev res : List ℕ
-  res = result (operationOf x) Q t x m
+  res = perform (operationOf x) v x m .result
 
   result-is : (r : List ℕ) → 8 + resultLength (x .req) ≤ length r → resultPut (q .operation) s m r ≡ splice r 8 res
   result-is r h = result-by (q .operation) asked r h
-      ∙ ap (λ (o : rules.Operation). splice r 8 (result o Q t x m)) (sym name-is)
+      ∙ ap (λ (o : Operation). splice r 8 (perform o v x m .result)) (sym name-is)
 
-  known-name : (o : Operation) → known (nameOf o) ≡ true
-  known-name (Read a b) = refl
-  known-name (Write a b) = refl
-  known-name Look = refl
-  known-name Raise = refl
-  known-name (Create number size) = refl
-  known-name Delete = refl
-  known-name (SetKey target) = refl
+  in-seven : (o : Operation) → (1 ≤ operationNumber o) × (operationNumber o ≤ 7)
+  in-seven (Read a b) = (omega arith, omega arith)
+  in-seven (Write a b) = (omega arith, omega arith)
+  in-seven Look = (omega arith, omega arith)
+  in-seven Raise = (omega arith, omega arith)
+  in-seven (Create number size) = (omega arith, omega arith)
+  in-seven Delete = (omega arith, omega arith)
+  in-seven (SetKey target) = (omega arith, omega arith)
 
   result-long : length res ≡ resultLength (x .req)
   result-long =
-      ap (λ (o : rules.Operation). length (result o Q t x m)) name-is
-      ∙ result-length (nameOf (q .operation)) Q t x m (known-name (q .operation)) name-is (λ o. read-long (name-is ∙ o))
-    where
-      read-long : operationOf x ≡ rules.read → length (part m (extentStart Q t x + x .req .A) (x .req .B)) ≡ x .req .B
-      read-long o =
-          let mv : moves (x .req) ≡ true = rw (code-of (x .req .operation) rules.read refl o) refl in
-          length-part m (extentStart Q t x + x .req .A) (x .req .B) (omega (arith, w .extent mv, w .inside mv))
+      let h = in-seven (q .operation) in
+      result-length v x m (omega (arith, number-is, h .0)) (omega (arith, number-is, h .1)) (λ a b o.
+      let k = asks-for (x .req) (Read a b) o in
+      let mv : moves (x .req) ≡ true = rw (k .0) refl in
+      length-part m (extentStart v (x .cred) + a) b (omega (arith, w .extent mv, w .inside mv, k .1, k .2)))
 
   -- ---- the reply
   abbrev H : List ℕ
@@ -264,7 +234,7 @@ module _ (d : Drive) (m f space : List ℕ) (q : ParsedRequest) (e : requestTold
   headed-is = ap (λ (n : ℕ). head (x .req) n ++ res) result-long
 
   abbrev key : List ℕ
-  key = credentialKey (t .keys) x
+  key = credentialKey (v .keys) x
 
   reply-by : (b : Bool) → (x .req .level is 2) ≡ b
       → cond b (sealPut key (x .credential ++ x .request) (8 + resultLength (x .req)) front) front
@@ -285,7 +255,7 @@ module _ (d : Drive) (m f space : List ℕ) (q : ParsedRequest) (e : requestTold
       (omega (arith, length-hmac key (x .credential ++ (x .request ++ (H ++ res))))))
 
   pub reply-is : replyPut key (x .credential ++ x .request) (requestTold q) (q .operation) s m space
-      ≡ splice space 0 (reply (operationOf x) Q t x m)
+      ≡ splice space 0 (reply (v .keys) x res)
   unfolding reply sealed
   reply-is =
       rw (e, front-is, headed-is) (reply-by (x .req .level is 2) refl)
@@ -294,56 +264,36 @@ module _ (d : Drive) (m f space : List ℕ) (q : ParsedRequest) (e : requestTold
   reply-long = ap replyLength e
 
   -- ---- the keys
-  keys-by : (o : Operation) → Is o → keysPut o (x .cred .slot) (x .cred .partition) (signing (t .keys) x)
-      (x .request ++ x .payload) (t .keys) ≡ tablesAfter (nameOf o) Q x t .keys
-  unfolding tablesAfter keySet newKey
-  keys-by (Read a b) i = refl
-  keys-by (Write a b) i = refl
-  keys-by Look i = refl
-  keys-by Raise i = refl
-  keys-by (Create number size) i = refl
-  keys-by Delete i = refl
-  keys-by (SetKey target) i = rw (i .first) refl
+  keys-by : (o : Operation) → keysPut o (x .cred .slot) (x .cred .partition) (signing (v .keys) x)
+      (x .request ++ x .payload) (v .keys) ≡ perform o v x m .scope .keys
+  unfolding perform keySet newKey
+  keys-by (Read a b) = refl
+  keys-by (Write a b) = refl
+  keys-by Look = refl
+  keys-by Raise = refl
+  keys-by (Create number size) = refl
+  keys-by Delete = refl
+  keys-by (SetKey target) = refl
 
-  pub keys-is : keysPut (q .operation) (x .cred .slot) (x .cred .partition) (signing (t .keys) x)
-      (x .request ++ x .payload) (t .keys)
-      ≡ driveAfter (operationOf x) x d .tables .keys
-  unfolding driveAfter
-  keys-is = keys-by (q .operation) asked ∙ ap (λ (o : rules.Operation). tablesAfter o Q x t .keys) (sym name-is)
+  pub keys-is : keysPut (q .operation) (x .cred .slot) (x .cred .partition) (signing (v .keys) x)
+      (x .request ++ x .payload) (v .keys) ≡ perform (operationOf x) v x m .scope .keys
+  keys-is = keys-by (q .operation) ∙ ap (λ (o : Operation). perform o v x m .scope .keys) (sym name-is)
 
-  -- ---- the partition, of four, and the memory, of five
-  module _ (four : length (t .partitions) ≡ 4) (five : length (d .memories) ≡ 5) (in-five : memory x < 5) where
-    after-at : (g : Partition Object → Partition Object)
-        → getD (update (x .cred .partition) g (t .partitions)) (x .cred .partition) (unused 0) ≡ g P
-    after-at g = nth-update (x .cred .partition) g (t .partitions) (unused 0) (omega (arith, w .four))
+  -- ---- the partition
+  partition-by : (o : Operation) → Is o → operationOf x ≡ o
+      → partitionAfter o (x .cred .object) (s .next) (s .place) P ≡ perform o v x m .scope .partition
+  unfolding perform siteOf startOf raised raisedTo created createdTo
+  partition-by (Read a b) i n = refl
+  partition-by (Write a b) i n = refl
+  partition-by Look i n = refl
+  partition-by Raise i n = ap (λ (u : ℕ). raisedTo u (x .cred .object) P) (next-is (rw (i .number) refl))
+  partition-by (Create number size) i n =
+      let p : start ≡ placeOf v size = placed ∙ rw (i .number, i .second) refl in
+      rw (p, next-is (rw (i .number) refl), lt-ltb (length (P .objects)) 16 (w .objects number size n)) refl
+  partition-by Delete i n = refl
+  partition-by (SetKey target) i n = refl
 
-    partition-by : (o : Operation) → Is o
-        → partitionAfter o (x .cred .object) (s .next) (s .place) P ≡ home (tablesAfter (nameOf o) Q x t) x
-    unfolding tablesAfter siteOf startOf raised raisedTo created createdTo
-    partition-by (Read a b) i = refl
-    partition-by (Write a b) i = refl
-    partition-by Look i = refl
-    partition-by Raise i =
-        ap (λ (v : ℕ). raisedTo v (x .cred .object) P) (next-is (rw (i .number) refl))
-        ∙ sym (after-at (raised (x .cred .object)))
-    partition-by (Create number size) i =
-        let p : start ≡ placeOf Q t x = placed ∙ rw (i .number) refl in
-        let room = w .objects (name (Create number size) i) in
-        let n = next-is (rw (i .number) refl) in
-        rw (p, n, ← i .first, ← i .second, lt-ltb (length (P .objects)) 16 room)
-        (sym (after-at (created (x .req .A) (x .req .B) (startOf Q t x))))
-    partition-by Delete i = sym (after-at (deleted (x .cred .object)))
-    partition-by (SetKey target) i = refl
-
-    pub partition-is : partitionAfter (q .operation) (x .cred .object) (s .next) (s .place) P
-        ≡ home (driveAfter (operationOf x) x d .tables) x
-    unfolding driveAfter
-    partition-is = partition-by (q .operation) asked
-        ∙ ap (λ (o : rules.Operation). home (tablesAfter o Q x t) x) (sym name-is)
-
-    pub memory-is : (new : Entry) → new ≡ entry x
-        → remembered d x ++ (new ∷ []) ≡ remembered (driveAfter (operationOf x) x d) x
-    unfolding driveAfter remembered remember
-    memory-is new k =
-        rw k
-        (sym (nth-update (memory x) (remember x) (d .memories) [] (omega (arith, in-five))))
+  pub partition-is : partitionAfter (q .operation) (x .cred .object) (s .next) (s .place) P
+      ≡ perform (operationOf x) v x m .scope .partition
+  partition-is = partition-by (q .operation) asked name-is
+      ∙ ap (λ (o : Operation). perform o v x m .scope .partition) (sym name-is)

@@ -1,25 +1,25 @@
 -- The table of rows in two parts: rows 1 to 7, and from row 8 on; and what a frame that no row refuses has room for.
-use mathlib.Core.Path.{_≡_, refl, sym, ap, subst, _∙_}
+use mathlib.Core.Path.{_≡_, refl, ap, _∙_}
 use mathlib.Core.Bool.{Bool, true, false, cond}
 use mathlib.Core.List.{List, [], _∷_, _++_}
-use Prim.Native.Nat.{ℕ, _+_, _≤_}
+use Prim.Native.Nat.{ℕ, _+_, _*_, _≤_}
 use native.Mathlib.Omega.{arith}
 use lib.ListN.{length}
-use borrow.Author.Tests.{eqb-false, ltb-false, leb-true, not-true}
+use borrow.Author.Tests.{eqb-false, ltb-false, le-leb, not-true}
 use Rattle.lemmas.specs.Tests.{_is_, _isnt_, and-l, and-r, and-false}
-use Rattle.lemmas.specs.ListLaws.{every-nth}
 use Rattle.lemmas.specs.Lists.{every}
-use Rattle.lemmas.specs.Rows.{Row, line, firstRow, numbered, applies, none-applies, row-next}
-use Rattle.rules.specs.Frame.{Fields, fields, operationOf, memory}
-use Rattle.rules.specs.Drive.{Drive, quarter, largestMedium, refresh, sound}
-use Rattle.rules.specs.Operations.{home, objectOf, named, extentStart, replyLength}
-use Rattle.rules.specs.Rows.{row1, gives, remembered, row21, row22, row23, frameRows, driveRows, rows}
+use Rattle.lemmas.specs.Rows.{Row, line, firstRow, numbered, row-next}
+use Rattle.rules.specs.declared.Object.{Object}
+use Rattle.rules.specs.Frame.{Fields, fields, operationOf}
+use Rattle.rules.specs.Drive.{Drive, quarter, mostEntries, refresh}
+use Rattle.rules.specs.Scope.{Scope, driveScope}
+use Rattle.rules.specs.Operations.{extentStart, replyLength}
+use Rattle.rules.specs.Rows.{row1, gives, row21, row22, frameRows, driveRows, rows}
 use Rattle.rules.proofs.Holds.{quarter-in, Grant}
-use Rattle.rules.proofs.Keeps.{small-of, tables-of, memories-of}
-use Rattle.rules.proofs.Sound.{SoundTables, SoundObject}
-use Rattle.rules.proofs.Memories.{short, room-left}
+use Rattle.rules.proofs.Sound.{SoundScope}
+use Rattle.rules.proofs.Memories.{room-left}
 use Rattle.rules.proofs.RepliesBack.{sound-named}
-use Rattle.rules.proofs.Clear.{is-sound, size-is, in-four, in-object, grant}
+use Rattle.rules.proofs.Clear.{Clear, clear21, clear22, clear23, in-four, in-object, grant}
 use Rattle.wire.specs.Parse.{frameRow}
 use Rattle.drive.specs.Site.{Room}
 
@@ -48,7 +48,7 @@ rows-met (r ∷ rs) bs z = go (r .applies) z (rows-met rs bs)
 -- ---- the gate's table, where row 1 does not apply
 module _ (d : Drive) (m f : List ℕ) (clock : ℕ) (space : List ℕ) (ready : row1 d m ≡ false) where
   abbrev later : List Row
-  later = driveRows (refresh clock d) (fields f) space
+  later = driveRows (driveScope (refresh clock d) (fields f .cred)) (fields f) space
 
   skip : firstRow (rows d m f clock space) ≡ firstRow (frameRows f (fields f) ++ later)
   unfolding rows
@@ -64,66 +64,32 @@ module _ (d : Drive) (m f : List ℕ) (clock : ℕ) (space : List ℕ) (ready : 
   unfolding frameRow
   by-frame z = skip ∙ rows-met (frameRows f (fields f)) later z
 
--- ---- a drive with its new mark and no outlived entry, and a frame that no row refuses
-module _ (d : Drive) (m f space : List ℕ) (fresh : refresh 0 d ≡ d) (ready : row1 d m ≡ false) (z : frameRow f ≡ 0)
-    (g : firstRow (driveRows d (fields f) space) ≡ 0) where
+-- ---- what a frame that no row refuses has room for
+module _ {f : List ℕ} {s : Scope Object} {space : List ℕ} (g : Clear f s space) (sound-s : SoundScope s)
+    (short : length (s .memory) ≤ mostEntries) (m : List ℕ) (q-is : s .quarter ≡ quarter (length m)) where
   abbrev x : Fields
   x = fields f
 
-  abbrev q : ℕ
-  q = quarter (d .size)
+  abbrev p : ℕ
+  p = x .cred .partition
 
-  none : firstRow (rows d m f 0 space) ≡ 0
-  none = past-frame d m f 0 space ready z ∙ ap (λ (e : Drive). firstRow (driveRows e x space)) fresh ∙ g
+  in-medium : p * s .quarter + s .quarter ≤ length m
+  in-medium = rw q-is (quarter-in (length m) p (in-four g))
 
-  clear : (n : ℕ) → applies n (driveRows d x space) ≡ false
-  unfolding driveRows every
-  clear n = none-applies (driveRows d x space) refl g n
-
-  clear21 : row21 (d .tables) x ≡ false
-  unfolding driveRows applies
-  clear21 = clear 21
-
-  clear22 : row22 d x ≡ false
-  unfolding driveRows applies
-  clear22 = clear 22
-
-  clear23 : row23 x space ≡ false
-  unfolding driveRows applies
-  clear23 = clear 23
-
-  -- the rules' facts are of the drive at a clock reading of 0, which is the drive itself
-  pub room : Room d m x space
-  unfolding row21 extentStart remembered
+  pub room : Room s m x space
+  unfolding row21 row22 extentStart
   room = record {
-    small = leb-true (d .size) largestMedium (small-of d sound-d);
-    four = in-four d m f 0 space none;
-    extent = λ h.
-        let s = subst (λ (e : Drive). SoundObject q (home (e .tables) x .last) (objectOf (e .tables) x)) fresh
-        (sound-named d m f 0 space none h) in
-        omega (arith, s .inside, quarter-in (d .size) (x .cred .partition) (in-four d m f 0 space none), size-is d m f 0 space none);
-    inside = λ h.
-        subst (λ (e : Drive). x .req .A + x .req .B ≤ objectOf (e .tables) x .size) fresh
-        (in-object d m f 0 space none h);
-    payload = λ o. granting .writes o .len;
-    cleared = λ o.
-        omega (
-          arith,
-          granting .creates o .place .inside,
-          quarter-in (d .size) (x .cred .partition) (in-four d m f 0 space none),
-          size-is d m f 0 space none,
-        );
-    objects = λ o. granting .creates o .room;
-    last = λ h k. eqb-false (home (d .tables) x .last) 4294967295
-        (and-false (gives (x .req)) (home (d .tables) x .last is 4294967295) h clear21) k;
-    entries = room-left d x clear22 (every-nth short (d .memories) (memory x) [] refl (memories-of d sound-d));
-    reply = ltb-false (length space) (replyLength (x .req)) clear23;
+    four = in-four g;
+    extent = λ h. omega (arith, sound-named g sound-s h .inside, in-medium);
+    inside = in-object g;
+    payload = λ a b o. granting .writes a b o .len;
+    cleared = λ a b o. omega (arith, granting .creates a b o .place .inside, in-medium);
+    objects = λ a b o. granting .creates a b o .room;
+    last = λ h k. eqb-false (s .partition .last) 4294967295
+        (and-false (gives (x .req)) (s .partition .last is 4294967295) h (clear21 g)) k;
+    entries = room-left s (clear22 g) (le-leb (length (s .memory)) 64 short);
+    reply = ltb-false (length space) (replyLength (x .req)) (clear23 g);
   }
     where
-      sound-d : sound d ≡ true
-      sound-d = is-sound d m f 0 space none
-
-      granting : Grant (operationOf x) q (d .tables) x
-      granting = subst (λ (e : Drive). Grant (operationOf x) (quarter (e .size)) (e .tables) x) fresh
-          (grant d m f 0 space none
-          (subst (λ (e : Drive). SoundTables (quarter (e .size)) (e .tables)) (sym fresh) (tables-of d sound-d)))
+      granting : Grant (operationOf x) s x
+      granting = grant g sound-s

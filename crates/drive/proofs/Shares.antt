@@ -14,31 +14,30 @@ use Rattle.lemmas.specs.ListLaws.{nth-map, every-nth, set-update}
 use Rattle.rules.specs.declared.Entry.{Entry}
 use Rattle.rules.specs.declared.Object.{Object}
 use Rattle.rules.specs.declared.Credential.{Credential}
-use Rattle.rules.specs.Frame.{Fields, fields, memory}
+use Rattle.rules.specs.Frame.{Fields, fields, memory, entry}
 use Rattle.rules.specs.Drive as rules
 use Rattle.rules.specs.Drive.{
   quarter,
-  lives,
+  largestMedium,
   mostObjects,
   mostEntries,
   sameEntry,
-  newHighWater,
   refresh,
   sound,
   soundPartition,
   unused,
 }
-use Rattle.rules.specs.Operations.{home, signing}
-use Rattle.rules.specs.Rows.{row1, remembered}
+use Rattle.rules.specs.Scope.{Scope, driveScope, driveWithScope}
+use Rattle.rules.specs.Operations.{signing}
+use Rattle.rules.specs.Rows.{row1, row12}
 use Rattle.rules.specs.Gate as rules·gate
-use Rattle.rules.specs.Gate.{gate}
+use Rattle.rules.specs.Gate.{gate, wholeAnswer}
 use Rattle.rules.proofs.Keeps.{refresh-sound, small-of, tables-of, memories-of}
 use Rattle.rules.proofs.Sound.{at-sound}
 use Rattle.rules.proofs.Memories.{short as short-list}
 use Rattle.wire.specs.declared.ParsedRequest.{ParsedRequest}
 use Rattle.wire.specs.declared.Parsed.the-variants.{Fields as Parsed·Fields}
 use Rattle.wire.specs.Parse.{frameRow, told, parseOf, requestTold}
-use Rattle.judge.specs.Judge.{entryOf}
 use Rattle.wire.specs.ParseLaws.{fields-told}
 use Rattle.keyring.specs.Keys.{keysIn}
 use Rattle.memory.specs.Memory.{entries}
@@ -56,13 +55,13 @@ use Rattle.drive.specs.declared.Answer.{Answer}
 use Rattle.drive.specs.declared.Share.{Share}
 use Rattle.drive.specs.declared.Outcome.{Outcome}
 use Rattle.drive.specs.View.{view, tablesIn, memoriesIn, few, Placed, Counted}
-use Rattle.drive.specs.Share.{alone, admitted, Ready, Given}
+use Rattle.drive.specs.Share.{sight, scopeAnswer, Ready, Given}
 use Rattle.drive.specs.Met.{callOf, GateMet}
 use Rattle.drive.proofs.Frames.{in-four, in-five}
 use Rattle.drive.proofs.Tables.{tables-at, tables-put}
 use Rattle.drive.proofs.Memories.{held-long}
-use Rattle.drive.proofs.Serving.{alone-home, alone-memory, memory-entered, memory-room}
-use Rattle.drive.proofs.Whole.{putBack, backIn, admitted-back, update-to}
+use Rattle.drive.proofs.Serving.{memory-entered, memory-room}
+use Rattle.drive.proofs.Whole.{restored, update-to}
 use Rattle.drive.proofs.Gates.{gate-admitted, admitted-zero, admitted-refused, drive-not-1, meets}
 
 -- ---- row 1's test as the code makes it
@@ -74,22 +73,11 @@ ready-row1 d m b e = go (sound d) (length m is d .size) ∙ ap not (sym e)
     go true c = refl
     go false c = refl
 
--- a filter's second pass finds nothing to drop
-keep-again : (t : Entry → Bool) (l : List Entry) → keep t (keep t l) ≡ keep t l
-unfolding keep
-keep-again t [] = refl
-keep-again t (e ∷ l) = go (t e) refl (keep-again t l)
-  where
-    go : (b : Bool) → t e ≡ b → keep t (keep t l) ≡ keep t l → keep t (cond b (e ∷ keep t l) (keep t l))
-        ≡ cond b (e ∷ keep t l) (keep t l)
-    go true k ih = rw k (ap (λ (r : List Entry). e ∷ r) ih)
-    go false k ih = ih
-
 -- d₀: the drive lent. d: the drive at the clock reading
 module _ (d₀ d : Drive) (clock : ℕ) (v : view d ≡ refresh clock (view d₀)) (counted : Counted d)
     (whole : sound (view d₀) ≡ true) (m f : List ℕ) (size : length m ≡ d₀ .size) (c : Credential) (q : ParsedRequest)
     (parsed : told (Parsed·Fields c q) ≡ parseOf f) (i k : ℕ) (i-is : i ≡ fields f .cred .partition)
-    (k-is : k ≡ memory (fields f)) (width : ℕ) (width-is : width ≡ 67) where
+    (k-is : k ≡ memory (fields f .cred)) (width : ℕ) (width-is : width ≡ 67) where
   abbrev x : Fields
   x = fields f
 
@@ -139,13 +127,13 @@ module _ (d₀ d : Drive) (clock : ℕ) (v : view d ≡ refresh clock (view d₀
   mem-long = held-long (d .lengths) (d .slots) (d .holders) (d .times) (d .counts) placed k k-low
 
   -- ---- the share is the frame's own part of the drive
-  home-is : home (view d .tables) x ≡ partitionIn part
+  home-is : driveScope (view d) (x .cred) .partition ≡ partitionIn part
   unfolding view viewed padded
   home-is = ap (λ (j : ℕ). getD (map viewed (tablesIn 4 (d .tables))) j (unused 0)) (sym i-is)
       ∙ nth-map viewed (tablesIn 4 (d .tables)) i [] ∙ ap viewed part-is ∙ viewed-is part long-part few-part
 
-  held-is : remembered (view d) x ≡ mem
-  unfolding view remembered
+  held-is : driveScope (view d) (x .cred) .memory ≡ mem
+  unfolding view
   held-is = ap (λ (j : ℕ). getD all-memories j []) (sym k-is)
 
   sound-d : sound (view d) ≡ true
@@ -156,27 +144,16 @@ module _ (d₀ d : Drive) (clock : ℕ) (v : view d ≡ refresh clock (view d₀
   sound-part = ap (soundPartition (quarter (d .size))) (sym home-is)
       ∙ at-sound (quarter (view d .size)) (view d .tables) (x .cred .partition) (tables-of (view d) sound-d)
 
-  sound-mem : leb (length mem) mostEntries ≡ true
-  unfolding remembered
-  sound-mem = ap (λ (l : List Entry). leb (length l) mostEntries) (sym held-is)
-      ∙ every-nth short-list (view d .memories) (memory x) [] refl (memories-of (view d) sound-d)
-
-  fresh-share : keep (lives (d .highwater)) mem ≡ mem
-  unfolding remembered refresh view keep
-  fresh-share =
-      let mark : d .highwater ≡ newHighWater (d₀ .highwater) clock = ap (λ (e : rules.Drive). e .tables .highWater) v in
-      let l : List Entry = getD (view d₀ .memories) (memory x) [] in
-      let held : mem ≡ keep (lives (newHighWater (d₀ .highwater) clock)) l =
-      sym held-is ∙ ap (λ (e : rules.Drive). getD (e .memories) (memory x) []) v
-      ∙ nth-map (keep (lives (newHighWater (d₀ .highwater) clock))) (view d₀ .memories) (memory x) [] in
-      rw (mark, held) (keep-again (lives (newHighWater (d₀ .highwater) clock)) l)
+  sound-mem : length mem ≤ mostEntries
+  sound-mem = leb-true (length mem) mostEntries (ap (λ (l : List Entry). leb (length l) mostEntries) (sym held-is)
+      ∙ every-nth short-list (view d .memories) (memory (x .cred)) [] refl (memories-of (view d) sound-d))
 
   row1-no : row1 (view d₀) m ≡ false
   unfolding view row1
   row1-no = ready-row1 (view d₀) m true (rw (whole, eq-eqb (length m) (d₀ .size) size) refl)
 
   -- ---- the share, of which the code found out whether its memory holds the nonce
-  module _ (replayed : Bool) (found : replayed ≡ some? (sameEntry (entryOf c (requestTold q))) mem) where
+  module _ (replayed : Bool) (found : replayed ≡ some? (sameEntry (entry c (requestTold q))) mem) where
     abbrev share : Share
     share = record {
       size = d .size;
@@ -185,69 +162,71 @@ module _ (d₀ d : Drive) (clock : ℕ) (v : view d ≡ refresh clock (view d₀
       held = getD (d .lengths) k 0;
     }
 
-    sound-share : sound (alone share (d .keys) part mem) ≡ true
-    unfolding sound alone every view
-    sound-share = rw (small-of (view d) sound-d, sound-part, sound-mem) refl
-
     pub ready : Ready share (d .keys) part mem m f c q
-    unfolding view refresh
+    unfolding view refresh row12
     ready = record {
       parsed = parsed;
       size = size ∙ sym (ap (λ (e : rules.Drive). e .size) v);
-      sound = sound-share;
-      fresh = fresh-share;
-      replayed = found;
-      held = mem-long;
+      small = leb-true (d .size) largestMedium (small-of (view d) sound-d);
+      sound = sound-part;
+      short = sound-mem;
+      replayed = sym found;
+      held = sym mem-long;
       keys = counted .keys;
       table = long-part;
     }
 
+    sight-is : driveScope (view d) (x .cred) ≡ sight share (d .keys) part mem
+    unfolding view
+    sight-is = λ i. record {
+      quarter = quarter (d .size);
+      highWater = d .highwater;
+      keys = keysIn (d .keys);
+      partition = home-is i;
+      memory = held-is i;
+    }
+
     -- ---- an outcome, and what the gate makes of it
     module _ (space : List ℕ) (out : Outcome) (after replied : List ℕ)
-        (given : Given (admitted (alone share (d .keys) part mem) m x space) (d .keys) part f q out after replied) where
-      abbrev a : rules·gate.Answer
-      a = admitted (alone share (d .keys) part mem) m x space
+        (given : Given (scopeAnswer (sight share (d .keys) part mem) m x space) (d .keys) part f q out after replied) where
+      abbrev a : rules·gate.Answer (Scope Object)
+      a = scopeAnswer (sight share (d .keys) part mem) m x space
 
-      whole-is : admitted (view d) m x space ≡ backIn (view d) x a
-      unfolding alone view
-      whole-is = admitted-back (view d) (alone share (d .keys) part mem) x refl refl refl
-          (alone-home share (d .keys) part mem f zero ∙ sym home-is) (alone-memory share (d .keys) part mem f zero ∙ sym held-is) refl (in-four f zero) refl
-          (in-five f zero) m space
-
-      gate-is : gate (view d₀) m (callOf f clock space) ≡ admitted (view d) m x space
-      gate-is = gate-admitted (view d₀) m f clock space row1-no zero ∙ ap (λ (e : rules.Drive). admitted e m x space) (sym v)
+      gate-is : gate (view d₀) m (callOf f clock space) ≡ wholeAnswer (x .cred) (view d) a
+      gate-is = gate-admitted (view d₀) m f clock space row1-no zero
+          ∙ ap (λ (e : rules.Drive). wholeAnswer (x .cred) e (scopeAnswer (driveScope e (x .cred)) m x space)) (sym v)
+          ∙ ap (λ (e : Scope Object). wholeAnswer (x .cred) (view d) (scopeAnswer e m x space)) sight-is
 
       not-1 : out .row ≡ 1 → ⊥
-      not-1 k = drive-not-1 (alone share (d .keys) part mem) m x space (sym (given .row) ∙ k)
+      not-1 k = drive-not-1 (sight share (d .keys) part mem) m x space (sym (given .row) ∙ k)
 
       -- a refusal leaves the drive
       pub met-refused : (out .row ≡ 0 → ⊥) → (r : Answer) → r .row ≡ out .row → r .length ≡ out .length → r .drive ≡ d
           → GateMet d₀ m (callOf f clock space) r after replied
       met-refused z r row length e =
-          meets d₀ m (callOf f clock space) r after replied (admitted (view d) m x space) gate-is
-          (row ∙ given .row ∙ sym (ap (λ (b : rules·gate.Answer). b .row) whole-is))
-          (length ∙ given .length ∙ sym (ap (λ (b : rules·gate.Answer). b .length) whole-is)) (ap view e ∙ sym (admitted-refused (view d) m x space zero-no))
-          (λ k. absurd (not-1 (sym row ∙ k)))
-          (given .medium ∙ sym (ap (λ (b : rules·gate.Answer). b .medium) whole-is))
-          (given .space ∙ sym (ap (λ (b : rules·gate.Answer). b .space) whole-is))
+          meets d₀ m (callOf f clock space) r after replied (wholeAnswer (x .cred) (view d) a) gate-is
+          (row ∙ given .row) (length ∙ given .length) (ap view e ∙ left) (λ k. absurd (not-1 (sym row ∙ k)))
+          (given .medium) (given .space)
         where
-          zero-no : admitted (view d) m x space .row ≡ 0 → ⊥
-          zero-no k = z (given .row ∙ sym (ap (λ (b : rules·gate.Answer). b .row) whole-is) ∙ k)
+          left : view d ≡ driveWithScope (x .cred) (a .drive) (view d)
+          left = sym (restored (view d) (x .cred))
+              ∙ ap (λ (e : Scope Object). driveWithScope (x .cred) e (view d)) (sight-is
+              ∙ sym (admitted-refused (sight share (d .keys) part mem) m x space (λ k. z (given .row ∙ k))))
 
       -- a grant is put back, and its nonce entered
       module _ (grant : out .row ≡ 0) where
-        no-row : admitted (alone share (d .keys) part mem) m x space .row ≡ 0
+        no-row : scopeAnswer (sight share (d .keys) part mem) m x space .row ≡ 0
         no-row = sym (given .row) ∙ grant
 
         -- there is room for it
         pub has-room : getD (d .lengths) k 0 < mostEntries
         has-room =
-            let room = memory-room share (d .keys) part mem m f space c q ready (admitted-zero (alone share (d .keys) part mem) m x space no-row) in
+            let room = memory-room share (d .keys) part mem m f space c q ready (admitted-zero (sight share (d .keys) part mem) m x space no-row) in
             omega (arith, mem-long)
 
         module _ (ks u : List ℕ) (keyed : ks ≡ keysAfter (q .operation) (c .slot) (c .partition) (x .request ++ x .payload) (d .keys))
             (became : Became part u (appliedIn (q .operation) (c .object) (out .next) (out .place) part))
-            (nonce : Entry) (is-nonce : nonce ≡ entryOf c (requestTold q)) (ns s h t n : List ℕ)
+            (nonce : Entry) (is-nonce : nonce ≡ entry c (requestTold q)) (ns s h t n : List ℕ)
             (entered : memoriesIn ns (entries s h t n) ≡ update k (λ (old : List Entry). old ++ (nonce ∷ [])) all-memories) where
           abbrev back : Drive
           back = record {
@@ -266,7 +245,7 @@ module _ (d₀ d : Drive) (clock : ℕ) (v : view d ≡ refresh clock (view d₀
           c-is = fields-told f c q parsed .1
 
           -- the keys are the answer's
-          keys-in : keysIn ks ≡ a .drive .tables .keys
+          keys-in : keysIn ks ≡ a .drive .keys
           keys-in = ap keysIn keyed
               ∙ ap (λ (e : Credential). keysIn (keysAfter (q .operation) (e .slot) (e .partition) (x .request ++ x .payload) (d .keys))) c-is
               ∙ keys-after (q .operation) (x .cred .slot) (x .cred .partition) (signing (keysIn (d .keys)) x)
@@ -281,28 +260,28 @@ module _ (d₀ d : Drive) (clock : ℕ) (v : view d ≡ refresh clock (view d₀
           changed : (partitionIn u ≡ now-part) × (getD u 2 0 ≤ mostObjects) × (length u ≡ 67)
           changed = applied-is part u (q .operation) (c .object) (out .next) (out .place) long-part few-part became
 
-          partition-in : viewed u ≡ home (a .drive .tables) x
+          partition-in : viewed u ≡ a .drive .partition
           partition-in = viewed-is u (changed .2) (changed .1) ∙ changed .0
               ∙ ap (λ (e : Credential). partitionAfter (q .operation) (e .object) (out .next) (out .place) (partitionIn part)) c-is
               ∙ given .partition grant
 
           partitions-in : map viewed (tablesIn 4 (putMid (67 * i) width (d .tables) u))
-              ≡ update i (λ (old : rules.Partition Object). home (a .drive .tables) x) (map viewed (tablesIn 4 (d .tables)))
+              ≡ update i (λ (old : rules.Partition Object). a .drive .partition) (map viewed (tablesIn 4 (d .tables)))
           partitions-in =
               ap (λ (n : ℕ). map viewed (tablesIn 4 (putMid (67 * i) n (d .tables) u))) width-is
               ∙ ap (map viewed) (tables-put 4 i (d .tables) u i-low (counted .tables) (changed .2))
-              ∙ set-update viewed (tablesIn 4 (d .tables)) i u (home (a .drive .tables) x) partition-in
+              ∙ set-update viewed (tablesIn 4 (d .tables)) i u (a .drive .partition) partition-in
 
-          held-in : mem ++ (nonce ∷ []) ≡ remembered (a .drive) x
+          held-in : mem ++ (nonce ∷ []) ≡ a .drive .memory
           held-in = ap (λ (e : Entry). mem ++ (e ∷ [])) is-nonce
-              ∙ memory-entered share (d .keys) part mem m f space c q ready (admitted-zero (alone share (d .keys) part mem) m x space no-row)
+              ∙ memory-entered share (d .keys) part mem m f space c q ready (admitted-zero (sight share (d .keys) part mem) m x space no-row)
 
           memories-in : memoriesIn ns (entries s h t n)
-              ≡ update k (λ (old : List Entry). remembered (a .drive) x) all-memories
+              ≡ update k (λ (old : List Entry). a .drive .memory) all-memories
           memories-in = entered
-              ∙ update-to k (λ (old : List Entry). old ++ (nonce ∷ [])) all-memories [] (remembered (a .drive) x) held-in
+              ∙ update-to k (λ (old : List Entry). old ++ (nonce ∷ [])) all-memories [] (a .drive .memory) held-in
 
-          back-is : view back ≡ putBack (view d) x (a .drive)
+          back-is : view back ≡ driveWithScope (x .cred) (a .drive) (view d)
           unfolding view
           back-is = rw (partitions-in, memories-in, keys-in, i-is, k-is) refl
 
@@ -310,5 +289,5 @@ module _ (d₀ d : Drive) (clock : ℕ) (v : view d ≡ refresh clock (view d₀
               → GateMet d₀ m (callOf f clock space) r after replied
           met-granted r e = subst (λ (b : Answer). GateMet d₀ m (callOf f clock space) b after replied) (sym e)
               (meets d₀ m (callOf f clock space) (record { row = out .row; length = out .length; drive = back }) after replied
-              (backIn (view d) x a) (gate-is ∙ whole-is) (given .row) (given .length) back-is (λ k. absurd (not-1 k))
+              (wholeAnswer (x .cred) (view d) a) gate-is (given .row) (given .length) back-is (λ k. absurd (not-1 k))
               (given .medium) (given .space))

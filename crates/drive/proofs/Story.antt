@@ -33,10 +33,10 @@ pub story : AllOfStory
 story medium F master key r zeroed calls made = record {
   versions = fed-claim VersionsOnce versions-once medium F master key r zeroed calls made;
   oneLog = one;
-  shown = λ before between later c d p n v e uc ud o.
-      demand3 medium F master key r zeroed calls made .shown (before ++ (c ∷ between)) later d
+  shown = λ before between later c d p n v A B e uc ud o.
+      demand3 medium F master key r zeroed calls made .shown (before ++ (c ∷ between)) later d A B
       (e ∙ sym (append-assoc before (c ∷ between) (d ∷ later))) (ud .granted) o
-      ∙ ap (λ (b : List ℕ). part b (asks (d .call) .req .A) (asks (d .call) .req .B))
+      ∙ ap (λ (b : List ℕ). part b A B)
       (ap (λ (f : List Fed). bytesOf (ledger (length medium) (start F master key) f) (asks (d .call)))
       (map-append fedBy before (c ∷ between))
       ∙ one .bytes (map fedBy before) (map fedBy between) (map fedBy later) (fedBy c) (fedBy d) p n v

@@ -8,9 +8,9 @@ use lib.ListN.{length}
 use Rattle.lemmas.specs.Lists.{part}
 use Rattle.lemmas.specs.Rows.{firstRow}
 use Rattle.rules.specs.Demands.{Agrees, asks, bytesOf, does, MarkAndOutlived, nonce, State}
-use Rattle.rules.specs.Frame.{read}
+use Rattle.rules.specs.declared.Operation.the-variants.{Read}
 use Rattle.rules.specs.Gate.{Call}
-use Rattle.rules.specs.Ledger.{clocked, Fed, Ledger, ledger, start, tablesOf}
+use Rattle.rules.specs.Ledger.{bareScope, clocked, Fed, Ledger, ledger, ledgerScope, start}
 use Rattle.rules.specs.Operations.{headSize}
 use Rattle.rules.specs.Rows.{bounds}
 use Rattle.drive.specs.declared.Drive.{Drive}
@@ -103,15 +103,15 @@ pub record Demand3 (M : ℕ) (s : Left) (l : Ledger) (calls : List Done) : Type 
   pub kept : (before later : List Done) (c : Done)
       → calls ≡ before ++ (c ∷ later)
       → Granted c
-      → firstRow (bounds (tablesOf (clocked (c .call .clock) (book M l before))) (asks (c .call))) ≡ 0
+      → firstRow (bounds (bareScope (ledgerScope M (clocked (c .call .clock) (book M l before)) (asks (c .call) .cred)))
+      (asks (c .call))) ≡ 0
   -- "Each granted read shows, for every byte, exactly the last granted write to it since that object's creation, or
   -- zero": after the reply's head, the bytes from A up to A + B of the ledger's object
-  pub shown : (before later : List Done) (c : Done)
+  pub shown : (before later : List Done) (c : Done) (A B : ℕ)
       → calls ≡ before ++ (c ∷ later)
       → Granted c
-      → does (c .call) ≡ read
-      → part (c .space) headSize (asks (c .call) .req .B)
-      ≡ part (bytesOf (book M l before) (asks (c .call))) (asks (c .call) .req .A) (asks (c .call) .req .B)
+      → does (c .call) ≡ Read A B
+      → part (c .space) headSize B ≡ part (bytesOf (book M l before) (asks (c .call))) A B
   -- "After every call the drive holds exactly the objects that the grants so far left, their areas disjoint and each
   -- inside its own partition." And before the first
   pub agrees : (before later : List Done) → calls ≡ before ++ later

@@ -1,28 +1,26 @@
--- What a frame can see and change of a drive: its own partition, its own memory and the keys. A drive that has nothing
--- else answers it alike. x: the frame's fields. s: the share. ks: the keys. t: the partition's table. l: the memory's entries.
+-- What the code has of the Scope of a frame: the share, the keys' bytes, the partition's table, and of the memory two facts.
+-- x: the frame's fields. s: the share. ks: the keys. t: the partition's table. l: the memory's entries.
 -- m: the medium. f: the frame.
 use mathlib.Core.Path.{_≡_}
 use mathlib.Core.Bool.{true, cond}
 use mathlib.Core.Option.{some}
 use mathlib.Core.List.{List, _++_}
-use Prim.Native.Nat.{ℕ}
-use lib.ListN.{length, replicate}
+use Prim.Native.Nat.{ℕ, _≤_}
+use lib.ListN.{length}
 use Rattle.lemmas.specs.Tests.{_is_}
-use Rattle.lemmas.specs.Lists.{keep, some?}
 use Rattle.lemmas.specs.Rows.{firstRow}
 use Rattle.rules.specs.declared.Credential.{Credential}
 use Rattle.rules.specs.declared.Entry.{Entry}
+use Rattle.rules.specs.declared.Object.{Object}
 use Rattle.rules.specs.Frame.{Fields, fields}
-use Rattle.rules.specs.Drive as rules
-use Rattle.rules.specs.Drive.{lives, sameEntry, sound}
-use Rattle.rules.specs.Operations.{home, keyIn, signing}
-use Rattle.rules.specs.Rows.{driveRows}
-use Rattle.rules.specs.Gate as rules·gate
-use Rattle.rules.specs.Gate.{refused, granted}
+use Rattle.rules.specs.Drive.{quarter, largestMedium, mostEntries, soundPartition}
+use Rattle.rules.specs.Scope.{Scope}
+use Rattle.rules.specs.Operations.{keyIn, signing}
+use Rattle.rules.specs.Rows.{row12, driveRows}
+use Rattle.rules.specs.Gate.{Answer, refused, granted}
 use Rattle.wire.specs.declared.ParsedRequest.{ParsedRequest}
 use Rattle.wire.specs.declared.Parsed.the-variants.{Fields as Parsed·Fields}
 use Rattle.wire.specs.Parse.{told, parseOf, requestTold}
-use Rattle.judge.specs.Judge.{entryOf}
 use Rattle.keyring.specs.Keys.{keysIn}
 use Rattle.set_key.specs.Keys.{keysPut}
 use Rattle.state.specs.Table.{tableSize, partitionIn}
@@ -30,34 +28,32 @@ use Rattle.partition.specs.Partition.{partitionAfter}
 use Rattle.drive.specs.declared.Share.{Share}
 use Rattle.drive.specs.declared.Outcome.{Outcome}
 
--- a drive of which every partition is that of the table, and every memory l
-unfoldable pub alone : Share → List ℕ → List ℕ → List Entry → rules.Drive
-alone s ks t l = record {
-  size = s .size;
-  tables = record {
-    highWater = s .highwater;
-    keys = keysIn ks;
-    partitions = replicate 4 (partitionIn t);
-  };
-  memories = replicate 5 l;
+-- the Scope that they make
+abbrev pub sight : Share → List ℕ → List ℕ → List Entry → Scope Object
+sight s ks t l = record {
+  quarter = quarter (s .size);
+  highWater = s .highwater;
+  keys = keysIn ks;
+  partition = partitionIn t;
+  memory = l;
 }
 
--- the answer to a frame that none of rows 1 to 7 refuses, of a drive with its new mark and no outlived entry
-unfoldable pub admitted : rules.Drive → List ℕ → Fields → List ℕ → rules·gate.Answer
-admitted d m x space =
-    let row = firstRow (driveRows d x space) in
-    cond (row is 0) (granted d m x space) (refused row d m space)
+-- the answer to a frame that none of rows 1 to 7 refuses, of its scope, which has the new mark and no outlived entry
+unfoldable pub scopeAnswer : Scope Object → List ℕ → Fields → List ℕ → Answer (Scope Object)
+scopeAnswer s m x space =
+    let row = firstRow (driveRows s x space) in
+    cond (row is 0) (granted s m x space) (refused row s m space)
 
--- a share that is sound, with its keys, its table, the entries of its memory, none of them outlived, its medium and a parsed
--- frame
+-- a share that is sound, with its keys, its table, the entries of its memory, its medium and a parsed frame
 pub record Ready (s : Share) (ks t : List ℕ) (l : List Entry) (m f : List ℕ) (c : Credential) (q : ParsedRequest) : Type 0
   where
     pub parsed : told (Parsed·Fields c q) ≡ parseOf f
     pub size : length m ≡ s .size
-    pub sound : sound (alone s ks t l) ≡ true
-    pub fresh : keep (lives (s .highwater)) l ≡ l
-    pub replayed : s .replayed ≡ some? (sameEntry (entryOf c (requestTold q))) l
-    pub held : s .held ≡ length l
+    pub small : s .size ≤ largestMedium
+    pub sound : soundPartition (quarter (s .size)) (partitionIn t) ≡ true
+    pub short : length l ≤ mostEntries
+    pub replayed : row12 (sight s ks t l) c (requestTold q) ≡ s .replayed
+    pub held : length l ≡ s .held
     pub keys : length ks ≡ 462
     pub table : length t ≡ tableSize
 
@@ -68,7 +64,7 @@ pub record Readied (s : Share) (ks t m f : List ℕ) (c : Credential) (q : Parse
 
 -- an outcome is the rules' answer a to the frame f: and of a grant the next version and the new extent's start are those
 -- with which keys and partition become the answer's
-pub record Given (a : rules·gate.Answer) (ks t f : List ℕ) (q : ParsedRequest) (r : Outcome) (after replied : List ℕ)
+pub record Given (a : Answer (Scope Object)) (ks t f : List ℕ) (q : ParsedRequest) (r : Outcome) (after replied : List ℕ)
     : Type 0 where
   pub row : r .row ≡ a .row
   pub length : r .length ≡ a .length
@@ -78,7 +74,6 @@ pub record Given (a : rules·gate.Answer) (ks t f : List ℕ) (q : ParsedRequest
       → keyIn (keysIn ks) (fields f .cred .partition) (fields f .cred .slot) ≡ some (signing (keysIn ks) (fields f))
   pub keys : r .row ≡ 0
       → keysPut (q .operation) (fields f .cred .slot) (fields f .cred .partition) (signing (keysIn ks) (fields f))
-      (fields f .request ++ fields f .payload) (keysIn ks) ≡ a .drive .tables .keys
+      (fields f .request ++ fields f .payload) (keysIn ks) ≡ a .drive .keys
   pub partition : r .row ≡ 0
-      → partitionAfter (q .operation) (fields f .cred .object) (r .next) (r .place) (partitionIn t)
-      ≡ home (a .drive .tables) (fields f)
+      → partitionAfter (q .operation) (fields f .cred .object) (r .next) (r .place) (partitionIn t) ≡ a .drive .partition

@@ -12,12 +12,14 @@ use Rattle.digest.specs.Stream.{Keyed}
 use Rattle.rules.specs.declared.Credential.{Credential}
 use Rattle.rules.specs.declared.Entry.{Entry}
 use Rattle.rules.specs.declared.Object.{Object}
-use Rattle.rules.specs.Frame.{Fields, fields, operationOf, write, create, memory}
+use Rattle.rules.specs.declared.Operation.the-variants.{Create, Write}
+use Rattle.rules.specs.Frame.{Fields, fields, operationOf}
 use Rattle.rules.specs.Drive as rules
 use Rattle.rules.specs.Drive.{quarter, largestMedium, mostObjects, mostEntries}
+use Rattle.rules.specs.Scope.{Scope}
 use Rattle.rules.specs.Operations.{
-  home,
   objectOf,
+  quarterStart,
   extentStart,
   startOf,
   placeOf,
@@ -27,17 +29,16 @@ use Rattle.rules.specs.Operations.{
   credentialKey,
   replyLength,
 }
-use Rattle.rules.specs.Rows.{moves, gives, remembered}
+use Rattle.rules.specs.Rows.{moves, gives}
 use Rattle.wire.specs.declared.ParsedRequest.{ParsedRequest}
 use Rattle.wire.specs.declared.Parsed.the-variants.{Fields as Parsed·Fields}
 use Rattle.wire.specs.Parse.{told, parseOf}
 use Rattle.effect.specs.declared.Site.{Site}
 use Rattle.effect.specs.Effect.{nextOf}
-use Rattle.judge.specs.Judge.{versionOf}
 use Rattle.keyring.specs.Keys.{keysIn}
 use Rattle.state.specs.Table.{tableSize}
 use Rattle.drive.specs.declared.Share.{Share}
-use Rattle.drive.specs.Share.{alone}
+use Rattle.drive.specs.Share.{sight}
 
 -- the object that a number names in a partition, all zeros where there is none
 abbrev pub objectIn : rules.Partition Object → ℕ → Object
@@ -51,23 +52,20 @@ siteOf size p c place = record {
   size = objectIn p (c .object) .size;
   place = Option·getD place 0;
   told = cond (c .object is 0) (quarter size) (objectIn p (c .object) .size);
-  version = versionOf p (c .object);
+  version = cond (c .object is 0) (p .version) (objectIn p (c .object) .version);
   next = nextOf (p .last);
 }
 
 -- what holds of a frame that no row refuses, so that everything fits
-pub record Room (d : rules.Drive) (m : List ℕ) (x : Fields) (space : List ℕ) : Type 0 where
-  pub small : d .size ≤ largestMedium
+pub record Room (s : Scope Object) (m : List ℕ) (x : Fields) (space : List ℕ) : Type 0 where
   pub four : x .cred .partition < 4
-  pub extent : moves (x .req) ≡ true
-      → extentStart (quarter (d .size)) (d .tables) x + objectOf (d .tables) x .size ≤ length m
-  pub inside : moves (x .req) ≡ true → x .req .A + x .req .B ≤ objectOf (d .tables) x .size
-  pub payload : operationOf x ≡ write → length (x .payload) ≡ x .req .B
-  pub cleared : operationOf x ≡ create
-      → x .cred .partition * quarter (d .size) + startOf (quarter (d .size)) (d .tables) x + x .req .B ≤ length m
-  pub objects : operationOf x ≡ create → length (home (d .tables) x .objects) < mostObjects
-  pub last : gives (x .req) ≡ true → home (d .tables) x .last ≡ 4_294_967_295 → ⊥
-  pub entries : length (remembered d x) < mostEntries
+  pub extent : moves (x .req) ≡ true → extentStart s (x .cred) + objectOf s (x .cred) .size ≤ length m
+  pub inside : moves (x .req) ≡ true → x .req .A + x .req .B ≤ objectOf s (x .cred) .size
+  pub payload : (a b : ℕ) → operationOf x ≡ Write a b → length (x .payload) ≡ b
+  pub cleared : (a b : ℕ) → operationOf x ≡ Create a b → quarterStart s (x .cred) + startOf s b + b ≤ length m
+  pub objects : (a b : ℕ) → operationOf x ≡ Create a b → length (s .partition .objects) < mostObjects
+  pub last : gives (x .req) ≡ true → s .partition .last ≡ 4_294_967_295 → ⊥
+  pub entries : length (s .memory) < mostEntries
   pub reply : replyLength (x .req) ≤ length space
 
 -- a grant's beginning: the parsed frame, room for everything, the keyed hash that took credential and request, the key
@@ -76,11 +74,11 @@ pub record Granting (s : Share) (ks t : List ℕ) (l : List Entry) (seen : Mac) 
     (q : ParsedRequest) (start : Option ℕ) : Type 0 where
   pub parsed : told (Parsed·Fields c q) ≡ parseOf f
   pub long : length f ≡ 96 + fields f .req .n
-  pub room : Room (alone s ks t l) m (fields f) space
+  pub small : s .size ≤ largestMedium
+  pub room : Room (sight s ks t l) m (fields f) space
   pub keyed : Keyed seen (credentialKey (keysIn ks) (fields f)) (fields f .credential ++ fields f .request)
   pub set : keyIn (keysIn ks) (fields f .cred .partition) (fields f .cred .slot) ≡ some (signing (keysIn ks) (fields f))
-  pub place : start
-      ≡ cond (fields f .req .operation isnt 5) none (placeOf (quarter (s .size)) (alone s ks t l .tables) (fields f))
+  pub place : start ≡ cond (fields f .req .operation isnt 5) none (placeOf (sight s ks t l) (fields f .req .B))
   pub table : length t ≡ tableSize
 
 -- the same, of some memory

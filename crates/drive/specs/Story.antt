@@ -7,7 +7,7 @@ use Prim.Native.Nat.{ℕ}
 use lib.ListN.{length}
 use Rattle.lemmas.specs.Lists.{part}
 use Rattle.rules.specs.Demands.{asks, bytesOf, does}
-use Rattle.rules.specs.Frame.{read}
+use Rattle.rules.specs.declared.Operation.the-variants.{Read}
 use Rattle.rules.specs.Ledger.{Ledger, start}
 use Rattle.rules.specs.Operations.{headSize}
 use Rattle.rules.specs.Story.{OneLog, rewritten, Uses, VersionsOnce}
@@ -21,14 +21,13 @@ pub record Story (M : ℕ) (l : Ledger) (calls : List Done) : Type 0 where
   -- between them raised, deleted or created it, and every use between them was under that same version
   pub oneLog : OneLog M l (map fedBy calls)
   -- and what d reads is what c found, changed by the granted writes since c and by nothing else
-  pub shown : (before between later : List Done) (c d : Done) (p n v : ℕ)
+  pub shown : (before between later : List Done) (c d : Done) (p n v A B : ℕ)
       → calls ≡ before ++ (c ∷ (between ++ (d ∷ later)))
       → Uses p n v (fedBy c)
       → Uses p n v (fedBy d)
-      → does (d .call) ≡ read
-      → part (d .space) headSize (asks (d .call) .req .B)
-      ≡ part (rewritten p n (map fedBy (c ∷ between)) (bytesOf (book M l before) (asks (c .call))))
-      (asks (d .call) .req .A) (asks (d .call) .req .B)
+      → does (d .call) ≡ Read A B
+      → part (d .space) headSize B
+      ≡ part (rewritten p n (map fedBy (c ∷ between)) (bytesOf (book M l before) (asks (c .call)))) A B
 
 -- for every format that returned row 0 and every list of calls
 abbrev pub AllOfStory : Type 0

@@ -17,7 +17,7 @@ ghost use Rattle.placing.specs.Placing.{told};
 ghost use Rattle.state.specs.Table.{tableSize, partitionIn};
 ghost use Rattle.keyring.specs.Keys.{keysIn};
 ghost use Rattle.set_key.specs.Keys.{keysAfter};
-ghost use Rattle.drive.specs.Share.{alone, admitted, Ready, Readied, Given};
+ghost use Rattle.drive.specs.Share.{sight, scopeAnswer, Ready, Readied, Given};
 ghost use Rattle.drive.specs.Site.{siteOf, Granting, Granted};
 use super::Outcome;
 use super::Share;
@@ -111,7 +111,7 @@ fn grant(
 ) -> Outcome
     requires { ⌜ Granted share (now keys) (now table) seen (now medium) (now frame) (now reply) c q (told place) ⌝ }
     ensures { λ r. ⌜ ((l : List Entry) → Granting share (now (keys .entry)) (now (table .entry)) l seen (now (medium .entry)) (now (frame .entry)) (now (reply .entry)) c q (told place)
-        → Given (granted (alone share (now (keys .entry)) (now (table .entry)) l) (now (medium .entry)) (fields (now (frame .entry))) (now (reply .entry)))
+        → Given (granted (sight share (now (keys .entry)) (now (table .entry)) l) (now (medium .entry)) (fields (now (frame .entry))) (now (reply .entry)))
         (now (keys .entry)) (now (table .entry)) (now (frame .entry)) q r (now (medium .exit)) (now (reply .exit))) ⌝ }
 {
     let r = wire::numbers(q);
@@ -153,7 +153,7 @@ pub fn serve(
 ) -> Outcome
     requires { ⌜ Readied share (now keys) (now table) (now medium) (now frame) c q ⌝ }
     ensures { λ r. ⌜ ((l : List Entry) → Ready share (now (keys .entry)) (now (table .entry)) l (now (medium .entry)) (now (frame .entry)) c q
-        → Given (admitted (alone share (now (keys .entry)) (now (table .entry)) l) (now (medium .entry)) (fields (now (frame .entry))) (now (reply .entry)))
+        → Given (scopeAnswer (sight share (now (keys .entry)) (now (table .entry)) l) (now (medium .entry)) (fields (now (frame .entry))) (now (reply .entry)))
         (now (keys .entry)) (now (table .entry)) (now (frame .entry)) q r (now (medium .exit)) (now (reply .exit))) ⌝ }
 {
     let j = keyring::place_of(c.slot, c.partition as usize);

@@ -7,8 +7,8 @@ use lib.ListN.{length, replicate}
 use lib.Dec.{leb}
 use Rattle.lemmas.specs.Tests.{_is_}
 use Rattle.lemmas.specs.Lists.{splice}
-use Rattle.wire.specs.declared.Operation.{Operation}
-use Rattle.wire.specs.declared.Operation.the-variants.{Read, Write, Look, Raise, Create, Delete, SetKey}
+use Rattle.rules.specs.declared.Operation.{Operation}
+use Rattle.rules.specs.declared.Operation.the-variants.{Read, Write, Look, Raise, Create, Delete, SetKey}
 use Rattle.effect.specs.declared.Site.{Site}
 
 -- the next version, 0 after the last that there is

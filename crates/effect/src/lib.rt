@@ -2,7 +2,7 @@
 // is written.
 ghost use mathlib.Core.Path.{_≡_};
 ghost use Rattle.effect.specs.Effect.{mediumPut, nextOf};
-use wire::Operation;
+use rules::Operation;
 
 // Where an operation works. `base` is the partition's start on the medium; `start` and `size` are the object's extent in
 // it, `place` the start of a new one; `told` and `version` are what a look tells, `next` is the next version.

@@ -12,7 +12,8 @@ use Rattle.rules.specs.Drive as rules
 use Rattle.rules.specs.Drive.{refresh}
 use Rattle.rules.specs.Rows.{rows, driveRows}
 use Rattle.rules.specs.Gate as rules·gate
-use Rattle.rules.specs.Gate.{gate, granted, refused, left}
+use Rattle.rules.specs.Scope.{driveScope}
+use Rattle.rules.specs.Gate.{gate, granted, refused, afterRefusal, wholeAnswer}
 use Rattle.rules.specs.Demands.{State, answer, step}
 use Rattle.rules.specs.Program.{callIn}
 use Rattle.drive.specs.declared.Drive.{Drive}
@@ -24,14 +25,15 @@ abbrev pub stateOf : Drive → List ℕ → State
 stateOf d m = record { drive = view d; medium = m }
 
 -- two answers that differ in the reply space at most
-record Alike (a b : rules·gate.Answer) : Type 0 where
+record Alike (a b : rules·gate.Answer rules.Drive) : Type 0 where
   row : a .row ≡ b .row
   length : a .length ≡ b .length
   drive : a .drive ≡ b .drive
   medium : a .medium ≡ b .medium
 
 alike-by : (b : Bool) (row : ℕ) (d e : rules.Drive) (m : List ℕ) (x : Fields) (s t : List ℕ)
-    → Alike (cond b (granted d m x s) (refused row e m s)) (cond b (granted d m x t) (refused row e m t))
+    → Alike (cond b (wholeAnswer (x .cred) d (granted (driveScope d (x .cred)) m x s)) (refused row e m s))
+    (cond b (wholeAnswer (x .cred) d (granted (driveScope d (x .cred)) m x t)) (refused row e m t))
 unfolding granted
 alike-by true row d e m x s t = record { row = refl; length = refl; drive = refl; medium = refl }
 alike-by false row d e m x s t = record { row = refl; length = refl; drive = refl; medium = refl }
@@ -47,7 +49,7 @@ unfolding gate
 gate-alike d m f clock s t e =
     let row : ℕ = firstRow (rows d m f clock t) in
     rw (rows-alike d m f clock s t e)
-    (alike-by (row is 0) row (refresh clock d) (left row clock d) m (fields f) s t)
+    (alike-by (row is 0) row (refresh clock d) (afterRefusal row clock d) m (fields f) s t)
 
 -- what the gate promises of the record at the start of p, put to it with any reply space of 65,536 bytes
 pub answered : (d : Drive) (m p space : List ℕ) (r : Answer) (after replied : List ℕ) → length space ≡ 65_536

@@ -1,30 +1,26 @@
--- Document 01, rows 10 to 23, of one partition and what is known of one replay memory, and that they are the rules' own.
+-- Rows 10 to 23 as the code makes them, of one partition's table and two facts of one replay memory: they are document 01's.
 -- mark: the drive's time. p: the partition. replayed: whether the memory holds the frame's nonce. held: how many entries it
 -- has. c, r: the numbers of credential and request.
-use mathlib.Core.Path.{_≡_, refl}
+use mathlib.Core.Path.{_≡_, refl, ap, _∙_}
 use mathlib.Core.Bool.{Bool, true, false, not, _&&_, cond}
-use mathlib.Core.Option.{Option, none, Option·getD}
-use mathlib.Core.List.{List, [], _∷_}
+use mathlib.Core.Option.{Option, none}
+use mathlib.Core.List.{List}
 use Prim.Native.Nat.{ℕ, _+_, _-_}
 use lib.ListN.{length}
 use Rattle.lemmas.specs.Tests.{_is_, _isnt_, _over_, _under_}
-use Rattle.lemmas.specs.Lists.{some?, find, missing}
-use Rattle.lemmas.specs.Rows.{Row, line}
+use Rattle.lemmas.specs.Lists.{find, missing}
+use Rattle.lemmas.specs.Rows.{firstRow}
 use Rattle.rules.specs.declared.Credential.{Credential}
 use Rattle.rules.specs.declared.Request.{Request}
 use Rattle.rules.specs.declared.Object.{Object}
-use Rattle.rules.specs.declared.Entry.{Entry}
-use Rattle.rules.specs.Frame.{Fields, entry, memory}
 use Rattle.rules.specs.Drive as rules
-use Rattle.rules.specs.Drive.{Drive, quarter, mostObjects, mostEntries, sameEntry}
+use Rattle.rules.specs.Drive.{mostObjects, mostEntries}
 use Rattle.rules.specs.BestFit.{extentStep, bestFit}
-use Rattle.rules.specs.Operations.{home, named, objectOf, present, placeOf, noObject, replyLength}
-use Rattle.rules.specs.Rows.{expired, untimely, bit, moves, gives, outOfRange, row8, row9, row10, row11, remembered, row12, row13, row14, row15, row16, row17, row18, row19, row20, row21, row22, driveRows}
+use Rattle.rules.specs.Scope.{Scope}
+use Rattle.rules.specs.Operations.{named, objectOf, present, placeOf, replyLength}
+use Rattle.rules.specs.Rows.{expired, untimely, bit, moves, gives, outOfRange, row10, row11, row12, row13, row14, row15, row16, row17, row18, row19, row20, row21, row22, scopeRows}
 use Rattle.state.specs.declared.Target.{Target}
-
--- "A grant enters (slot, holder, T, count)"
-unfoldable pub entryOf : Credential → Request → Entry
-entryOf c r = record { slot = c .slot; holder = c .holder; time = r .time; count = r .count }
+use Rattle.state.specs.Table.{targetIn}
 
 -- where a new object's extent starts; none where no object is created
 abbrev pub placeFor : ℕ → List Object → Request → Option ℕ
@@ -56,39 +52,31 @@ roomRow p held r place space =
     (cond (gives r && p .last is 4_294_967_295) 21
     (cond (held is mostEntries) 22 (cond (space under replyLength r) 23 0)))))
 
--- ---- the same as a table
-abbrev pub versionOf : rules.Partition Object → ℕ → ℕ
-versionOf p n = cond (n is 0) (p .version) (Option·getD (find Object.number n (p .objects)) noObject .version)
+-- ---- what the code is told of a Scope s: the mark, the partition, two facts of the memory, and where a new extent would start
+pub record Told (s : Scope Object) (mark : ℕ) (p : rules.Partition Object) (replayed : Bool) (held : ℕ) (c : Credential)
+    (r : Request) (place : Option ℕ) : Type 0 where
+  pub marked : s .highWater ≡ mark
+  pub own : s .partition ≡ p
+  pub repeats : row12 s c r ≡ replayed
+  pub entries : length (s .memory) ≡ held
+  pub placed : place ≡ cond (r .operation isnt 5) none (placeOf s (r .B))
 
-unfoldable pub judgeRows : ℕ → rules.Partition Object → Bool → ℕ → Credential → Request → Option ℕ → ℕ → List Row
-judgeRows mark p replayed held c r place space =
-    line 10 (expired mark (c .expiry))
-    ∷ line 11 (untimely mark (r .time))
-    ∷ line 12 replayed
-    ∷ line 13 (not (bit (r .operation - 1) (c .rights)))
-    ∷ line 14 (c .object isnt 0 && missing (find Object.number (c .object) (p .objects)))
-    ∷ line 15 (r .operation under 7 && c .version isnt versionOf p (c .object))
-    ∷ line 16 (moves r && outOfRange (c .first) (c .end) (r .A) (r .B))
-    ∷ line 17 (moves r && r .A + r .B over Option·getD (find Object.number (c .object) (p .objects)) noObject .size)
-    ∷ line 18 (r .operation is 5 && not (missing (find Object.number (r .A) (p .objects))))
-    ∷ line 19 (r .operation is 5 && length (p .objects) is mostObjects)
-    ∷ line 20 (r .operation is 5 && missing place)
-    ∷ line 21 (gives r && p .last is 4_294_967_295)
-    ∷ line 22 (held is mostEntries)
-    ∷ line 23 (space under replyLength r)
-    ∷ []
+-- a place that is looked for only where one is needed judges row 20 the same
+place-when : (b : Bool) (place : Option ℕ) → (b && missing (cond (not b) none place)) ≡ (b && missing place)
+place-when true place = refl
+place-when false place = refl
 
 -- ---- they are the rules' rows
-pub rules-rows : (d : Drive) (x : Fields) (space : List ℕ) → driveRows d x space
-    ≡ line 8 (row8 (d .tables) x) ∷ line 9 (row9 (d .tables) x) ∷ judgeRows (d .tables .highWater) (home (d .tables) x)
-    (some? (sameEntry (entryOf (x .cred) (x .req))) (remembered d x)) (length (remembered d x)) (x .cred) (x .req)
-    (placeOf (quarter (d .size)) (d .tables) x) (length space)
+pub rows-told : (s : Scope Object) (mark : ℕ) (p : rules.Partition Object) (replayed : Bool) (held : ℕ) (c : Credential)
+    (r : Request) (place : Option ℕ) (room : ℕ) → Told s mark p replayed held c r place
+    → timeRow mark replayed c (r .operation) r (objectRow c r (targetIn (p .objects) (c .object))
+    (presentIn (p .version) (c .object) (targetIn (p .objects) (c .object))) (roomRow p held r place room))
+    ≡ firstRow (scopeRows s c r room)
 unfolding
-    driveRows
-    judgeRows
+    firstRow
+    scopeRows
     row10
     row11
-    row12
     row13
     row14
     row15
@@ -102,18 +90,8 @@ unfolding
     named
     objectOf
     present
-    entry
-    entryOf
-rules-rows d x space = refl
-
--- a place that is looked for only where one is needed judges row 20 the same
-pub place-when : (mark : ℕ) (p : rules.Partition Object) (replayed : Bool) (held : ℕ) (c : Credential) (r : Request)
-    (place : Option ℕ) (space : ℕ)
-    → judgeRows mark p replayed held c r (cond (r .operation isnt 5) none place) space ≡ judgeRows mark p replayed held c r place space
-unfolding judgeRows
-place-when mark p replayed held c r place space = go (r .operation is 5) refl
-  where
-    go : (b : Bool) → (r .operation is 5) ≡ b
-        → judgeRows mark p replayed held c r (cond (r .operation isnt 5) none place) space ≡ judgeRows mark p replayed held c r place space
-    go true e = rw e refl
-    go false e = rw e refl
+    targetIn
+rows-told s mark p replayed held c r place room w =
+    let w20 : (r .operation is 5 && missing place) ≡ (r .operation is 5 && missing (placeOf s (r .B))) =
+    ap (λ (a : Option ℕ). r .operation is 5 && missing a) (w .placed) ∙ place-when (r .operation is 5) (placeOf s (r .B)) in
+    rw (w20, ← w .marked, ← w .own, ← w .repeats, ← w .entries) refl

@@ -6,23 +6,26 @@ ghost use Prim.Native.Nat.{_-_};
 ghost use lib.ListN.{getD};
 ghost use Rattle.lemmas.specs.Rows.{firstRow};
 ghost use Rattle.lemmas.specs.Lists.{missing};
-ghost use Rattle.rules.specs.Rows.{untimely, bit, outOfRange};
+ghost use Rattle.rules.specs.declared.Object.{Object};
+ghost use Rattle.rules.specs.Frame.{entry};
+ghost use Rattle.rules.specs.Scope.{Scope};
+ghost use Rattle.rules.specs.Rows.{untimely, bit, outOfRange, scopeRows};
 ghost use Rattle.state.specs.Table.{heldIn, partitionIn};
 ghost use Rattle.placing.specs.Placing.{told};
 ghost use Rattle.wire.specs.Parse.{operationNumber, requestTold};
-ghost use Rattle.judge.specs.Judge.{entryOf, placeFor, presentIn, timeRow, objectRow, roomRow, judgeRows};
+ghost use Rattle.judge.specs.Judge.{placeFor, presentIn, timeRow, objectRow, roomRow, Told};
 use lemmas::pick;
 use placing::Place;
 use rules::Credential;
 use rules::Entry;
+use rules::Operation;
 use rules::Request;
 use state::Target;
-use wire::Operation;
 use wire::ParsedRequest;
 
 // The nonce of a frame: what a grant enters.
 pub fn entry_of(c: Credential, r: Request) -> Entry
-    ensures { λ e. ⌜ e ≡ entryOf c r ⌝ }
+    ensures { λ e. ⌜ e ≡ entry c r ⌝ }
 {
     Entry {
         slot: c.slot,
@@ -168,7 +171,8 @@ pub fn judge(
     place: Place,
     space: usize,
 ) -> u32
-    ensures { λ x. ⌜ x ≡ firstRow (judgeRows mark (partitionIn (now (table .entry))) replayed held c (requestTold q) (told place) space) ⌝ }
+    ensures { λ x. ⌜ ((s : Scope Object) → Told s mark (partitionIn (now (table .entry))) replayed held c (requestTold q) (told place)
+        → x ≡ firstRow (scopeRows s c (requestTold q) space)) ⌝ }
 {
     let r = wire::numbers(q);
     let t = state::named(table, c.object);

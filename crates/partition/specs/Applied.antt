@@ -20,8 +20,8 @@ use Rattle.state.specs.Table.{tableSize, places, heldIn, partitionIn}
 use Rattle.state.specs.Places.{held-length, count-is}
 use Rattle.state.specs.Changes.{Content, contentOf, Became, fronted, raisedIn, joinedIn, others, removedIn}
 use Rattle.state.specs.Fronts.{change-length}
-use Rattle.wire.specs.declared.Operation.{Operation}
-use Rattle.wire.specs.declared.Operation.the-variants.{Read, Write, Look, Raise, Create, Delete, SetKey}
+use Rattle.rules.specs.declared.Operation.{Operation}
+use Rattle.rules.specs.declared.Operation.the-variants.{Read, Write, Look, Raise, Create, Delete, SetKey}
 use Rattle.partition.specs.Partition.{raisedTo, createdTo, partitionAfter, appliedIn}
 
 -- what a content is of a partition: as many objects as it counts

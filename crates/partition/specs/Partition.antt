@@ -11,8 +11,8 @@ use Rattle.rules.specs.Drive as rules
 use Rattle.rules.specs.Drive.{changed, mostObjects}
 use Rattle.rules.specs.Operations.{withVersion, deleted}
 use Rattle.state.specs.Changes.{Content, contentOf, raisedIn, joinedIn, removedIn}
-use Rattle.wire.specs.declared.Operation.{Operation}
-use Rattle.wire.specs.declared.Operation.the-variants.{Read, Write, Look, Raise, Create, Delete, SetKey}
+use Rattle.rules.specs.declared.Operation.{Operation}
+use Rattle.rules.specs.declared.Operation.the-variants.{Read, Write, Look, Raise, Create, Delete, SetKey}
 
 -- ---- the partition after an operation on the object of number n; v is the new version
 -- 4. "object or partition gets the next version"

@@ -2,7 +2,7 @@
 ghost use Rattle.state.specs.Changes.{Changed};
 ghost use Rattle.partition.specs.Partition.{appliedIn};
 use rules::Object;
-use wire::Operation;
+use rules::Operation;
 
 // Does what an operation on the object of a number does to its partition's table, `version` being the new version and
 // `start` a new extent's start. Four operations leave it.

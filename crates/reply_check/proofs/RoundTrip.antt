@@ -6,10 +6,11 @@ use Prim.Native.Nat.{ℕ}
 use lib.ListN.{take}
 use Rattle.lemmas.specs.Rows.{firstRow}
 use Rattle.rules.specs.Client.{buildRows, Checked, frameOf}
-use Rattle.rules.specs.Drive.{Drive, quarter, refresh}
+use Rattle.rules.specs.Drive.{Drive, refresh}
 use Rattle.rules.specs.Frame.{fields, operationOf}
 use Rattle.rules.specs.Gate.{Call, gate}
-use Rattle.rules.specs.Operations.{credentialKey, result}
+use Rattle.rules.specs.Operations.{credentialKey, perform}
+use Rattle.rules.specs.Scope.{driveScope}
 use Rattle.rules.proofs.RepliesBack.{replies-back}
 use Rattle.reply_check.specs.Met.{CheckMet}
 
@@ -18,8 +19,8 @@ pub reply-accepted : (d : Drive) (v : List ℕ) (c : Call) (a b p k s : List ℕ
     → firstRow (buildRows a b p k s) ≡ 0 → c .frame ≡ frameOf a b p k → gate d v c .row ≡ 0
     → k ≡ credentialKey (refresh (c .clock) d .tables .keys) (fields (c .frame))
     → CheckMet a b k (take (gate d v c .length) (gate d v c .space)) row part
-    → (row ≡ 0) × (part ≡ result (operationOf (fields (c .frame))) (quarter (d .size)) (refresh (c .clock) d .tables)
-    (fields (c .frame)) v)
+    → (row ≡ 0) × (part ≡ perform (operationOf (fields (c .frame)))
+    (driveScope (refresh (c .clock) d) (fields (c .frame) .cred)) (fields (c .frame)) v .result)
 reply-accepted d v c a b p k s row part g e z h m =
     let t = replies-back d v c a b p k s g e z h .accepted in
     (m .row ∙ ap Checked.row t, m .result ∙ ap Checked.result t)

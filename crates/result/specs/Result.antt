@@ -7,8 +7,8 @@ use lib.ListN.{length}
 use lib.Dec.{leb}
 use Rattle.lemmas.specs.Lists.{part, splice}
 use Rattle.octets.specs.Numbers.{numberPut}
-use Rattle.wire.specs.declared.Operation.{Operation}
-use Rattle.wire.specs.declared.Operation.the-variants.{Read, Write, Look, Raise, Create, Delete, SetKey}
+use Rattle.rules.specs.declared.Operation.{Operation}
+use Rattle.rules.specs.declared.Operation.the-variants.{Read, Write, Look, Raise, Create, Delete, SetKey}
 use Rattle.effect.specs.declared.Site.{Site}
 use Rattle.effect.specs.Effect.{objectFrom}
 

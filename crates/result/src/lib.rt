@@ -2,7 +2,7 @@
 ghost use mathlib.Core.Path.{_≡_};
 ghost use Rattle.result.specs.Result.{resultPut};
 use effect::Site;
-use wire::Operation;
+use rules::Operation;
 
 // The result goes into the reply after its eight-byte head.
 pub fn put_result(reply: &mut [u8], medium: &[u8], o: Operation, s: Site)

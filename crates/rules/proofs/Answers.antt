@@ -15,8 +15,9 @@ use Rattle.lemmas.specs.Tests.{_is_, bool-cases}
 use Rattle.rules.specs.Demands.{Demand1, Exact, MarkAndOutlived}
 use Rattle.rules.specs.Drive.{Drive, lives, newHighWater, refresh}
 use Rattle.rules.specs.Frame.{fields}
-use Rattle.rules.specs.Gate.{Answer, Call, gate, granted, left, refused}
-use Rattle.rules.specs.Rows.{driveRows, frameRows, row1, rows}
+use Rattle.rules.specs.Gate.{Answer, Call, gate, granted, afterRefusal, refused, wholeAnswer}
+use Rattle.rules.specs.Rows.{driveRows, scopeRows, frameRows, row1, rows}
+use Rattle.rules.specs.Scope.{driveScope}
 
 module _ (d : Drive) (m : List ℕ) (c : Call) where
   abbrev table : List Row
@@ -25,12 +26,13 @@ module _ (d : Drive) (m : List ℕ) (c : Call) where
   abbrev fresh : Drive
   fresh = refresh (c .clock) d
 
-  pub gate-granted : firstRow table ≡ 0 → gate d m c ≡ granted fresh m (fields (c .frame)) (c .space)
+  pub gate-granted : firstRow table ≡ 0 → gate d m c
+      ≡ wholeAnswer (fields (c .frame) .cred) fresh (granted (driveScope fresh (fields (c .frame) .cred)) m (fields (c .frame)) (c .space))
   unfolding gate
   gate-granted e = rw (eq-eqb (firstRow table) 0 e) refl
 
   pub gate-refused : (firstRow table ≡ 0 → ⊥) → gate d m c
-      ≡ refused (firstRow table) (left (firstRow table) (c .clock) d) m (c .space)
+      ≡ refused (firstRow table) (afterRefusal (firstRow table) (c .clock) d) m (c .space)
   unfolding gate
   gate-refused e = rw (ne-eqb (firstRow table) 0 e) refl
 
@@ -46,11 +48,11 @@ module _ (d : Drive) (m : List ℕ) (c : Call) where
       go (inr k) = ap Answer.row (gate-refused (eqb-false (firstRow table) 0 k))
 
   numbers : numbered table ≡ true
-  unfolding rows frameRows driveRows every
+  unfolding rows frameRows driveRows scopeRows every
   numbers = refl
 
   below : every (λ (r : Row). leb (r .row) 23) table ≡ true
-  unfolding rows frameRows driveRows every
+  unfolding rows frameRows driveRows scopeRows every
   below = refl
 
   pub exact : Exact d m c
@@ -66,7 +68,7 @@ module _ (d : Drive) (m : List ℕ) (c : Call) where
   unchanged e =
       let r : firstRow table ≡ 1 = sym gate-row ∙ e in
       ap Answer.drive (gate-refused (λ z. let k : _≡_ {A = ℕ} 0 1 = sym z ∙ r in omega arith))
-      ∙ ap (λ (n : ℕ). left n (c .clock) d) r
+      ∙ ap (λ (n : ℕ). afterRefusal n (c .clock) d) r
 
   -- an unchanged drive, and one with its new mark
   same-drive : MarkAndOutlived d d
@@ -93,17 +95,17 @@ module _ (d : Drive) (m : List ℕ) (c : Call) where
     space = λ e. ap Answer.space (gate-refused (λ z. e (gate-row ∙ z)));
     medium = λ e. ap Answer.medium (gate-refused (λ z. e (gate-row ∙ z)));
     drive = λ e.
-        subst (λ (a : Answer). MarkAndOutlived d (a .drive)) (sym (gate-refused (λ z. e (gate-row ∙ z))))
+        subst (λ (a : Answer Drive). MarkAndOutlived d (a .drive)) (sym (gate-refused (λ z. e (gate-row ∙ z))))
         (left-drive (firstRow table is 1));
     unchanged = unchanged;
   }
 
   -- ---- a sound drive and its own medium: row 1 does not apply, and a refusal leaves the new mark
-  pub ready-left : row1 d m ≡ false → left (firstRow table) (c .clock) d ≡ fresh
-  unfolding rows frameRows driveRows every
+  pub ready-left : row1 d m ≡ false → afterRefusal (firstRow table) (c .clock) d ≡ fresh
+  unfolding rows frameRows driveRows scopeRows every
   ready-left h =
       let rest : List Row = frameRows (c .frame) (fields (c .frame))
-      ++ driveRows fresh (fields (c .frame)) (c .space) in
+      ++ driveRows (driveScope fresh (fields (c .frame) .cred)) (fields (c .frame)) (c .space) in
       let e : (firstRow table is 1) ≡ false = ap (λ (n : ℕ). n is 1) (row-next (line 1 (row1 d m)) rest h)
       ∙ row-isnt 1 rest refl refl in
       rw e refl

@@ -14,57 +14,47 @@ use Rattle.lemmas.specs.ListLaws.{
   map-append,
   nth-map,
   update-map,
-  update-map-same,
 }
 use Rattle.lemmas.specs.Lists.{change, find, missing}
 use Rattle.lemmas.specs.Tests.{_is_, _isnt_}
+use Rattle.rules.specs.declared.Credential.{Credential}
+use Rattle.rules.specs.declared.Entry.{Entry}
 use Rattle.rules.specs.declared.Object.{Object}
-use Rattle.rules.specs.Drive.{changed, Partition, partitionAt, quarter, Tables, unused}
-use Rattle.rules.specs.Frame.{create, delete, Fields, look, Operation, raise, read, setKey, unknown, write}
+use Rattle.rules.specs.Drive.{changed, Partition, partitionAt, Tables, unused}
+use Rattle.rules.specs.declared.Operation.{Operation}
+use Rattle.rules.specs.declared.Operation.the-variants.{Create, Delete, Look, Raise, Read, SetKey, Write}
+use Rattle.rules.specs.Frame.{Fields}
 use Rattle.rules.specs.Ledger.{
   bare,
+  bareScope,
   gone,
   Held,
   heldVersion,
   joined,
   Ledger,
   ledgerAfter,
+  ledgerScope,
   numberOf,
   raisedHere,
   tablesOf,
   written,
   wrote,
 }
-use Rattle.rules.specs.Operations.{
-  created,
-  deleted,
-  named,
-  noObject,
-  objectOf,
-  raised,
-  startOf,
-  tablesAfter,
-  withVersion,
-}
+use Rattle.rules.specs.Operations.{created, deleted, noObject, perform, placeOf, raised, startOf, withVersion}
+use Rattle.rules.specs.Scope.{withScope, Scope, withMemory}
 
 pub bare-at : (l : Ledger) (p : ℕ) → partitionAt (tablesOf l) p ≡ bare (partitionAt l p)
 unfolding tablesOf
 bare-at l p = nth-map bare (l .partitions) p (unused 0)
 
--- the tables with other partitions, and with other objects in one
-tables-with : (l : Ledger) {ps rs : List (Partition Object)} → ps ≡ rs
-    → _≡_ {A = Tables Object} (record { highWater = l .highWater; keys = l .keys; partitions = ps })
-    (record { highWater = l .highWater; keys = l .keys; partitions = rs })
-tables-with l e = λ i. record { highWater = l .highWater; keys = l .keys; partitions = e i }
-
 objects-with : (p : Partition Object) {a b : List Object} → a ≡ b
     → changed {A = Object} (p .version) (p .last) a p ≡ changed (p .version) (p .last) b p
 objects-with p e = ap (λ (os : List Object). changed (p .version) (p .last) os p) e
 
-bare-written : (x : Fields) (p : Partition Held) → bare (written x p) ≡ bare p
+bare-written : (n offset : ℕ) (new : List ℕ) (p : Partition Held) → bare (written n offset new p) ≡ bare p
 unfolding written wrote
-bare-written x p = objects-with (bare p) (change-map-same Held.object numberOf (x .cred .object) (wrote x) (λ h. refl)
-    (p .objects))
+bare-written n offset new p = objects-with (bare p)
+    (change-map-same Held.object numberOf n (wrote offset new) (λ h. refl) (p .objects))
 
 bare-raised : (n : ℕ) (p : Partition Held) → bare (raisedHere n p) ≡ raised n (bare p)
 unfolding raisedHere raised
@@ -88,51 +78,47 @@ bare-gone : (n : ℕ) (p : Partition Held) → bare (gone n p) ≡ deleted n (ba
 unfolding gone deleted
 bare-gone n p = objects-with (bare p) (keep-map Held.object (λ (a : Object). a .number isnt n) (p .objects))
 
-pub bare-after : (o : Operation) (M : ℕ) (x : Fields) (l : Ledger)
-    → tablesOf (ledgerAfter o M x l) ≡ tablesAfter o (quarter M) x (tablesOf l)
-unfolding ledgerAfter tablesAfter tablesOf
-bare-after unknown M x l = refl
-bare-after read M x l = refl
-bare-after write M x l = tables-with l (update-map-same bare (written x) (bare-written x) (x .cred .partition)
-    (l .partitions))
-bare-after look M x l = refl
-bare-after raise M x l = tables-with l (update-map bare (raisedHere (x .cred .object)) (raised (x .cred .object))
-    (bare-raised (x .cred .object)) (x .cred .partition) (l .partitions))
-bare-after create M x l =
-    let s : ℕ = startOf (quarter M) (tablesOf l) x in
-    tables-with l (update-map bare (joined (x .req .A) (x .req .B) s) (created (x .req .A) (x .req .B) s)
-    (bare-joined (x .req .A) (x .req .B) s) (x .cred .partition) (l .partitions))
-bare-after delete M x l = tables-with l (update-map bare (gone (x .cred .object)) (deleted (x .cred .object))
-    (bare-gone (x .cred .object)) (x .cred .partition) (l .partitions))
-bare-after setKey M x l = refl
+pub bare-after : (o : Operation) (s : Scope Held) (l : List Entry) (x : Fields) (m : List ℕ)
+    → perform o (withMemory l (bareScope s)) x m .scope ≡ withMemory l (bareScope (ledgerAfter o s x))
+unfolding ledgerAfter perform startOf placeOf
+bare-after (Read a b) s l x m = refl
+bare-after (Write a b) s l x m = rw (bare-written (x .cred .object) a (x .payload) (s .partition)) refl
+bare-after Look s l x m = refl
+bare-after Raise s l x m = rw (bare-raised (x .cred .object) (s .partition)) refl
+bare-after (Create a b) s l x m = rw (bare-joined a b (startOf (bareScope s) b) (s .partition)) refl
+bare-after Delete s l x m = rw (bare-gone (x .cred .object) (s .partition)) refl
+bare-after (SetKey a) s l x m = refl
 
--- ---- an object that the drive has, the ledger has too
-found-is : (l : Ledger) (p n : ℕ) → find Object.number n (partitionAt (tablesOf l) p .objects)
-    ≡ Option·map Held.object (find numberOf n (partitionAt l p .objects))
-found-is l p n =
-    ap (λ (r : Partition Object). find Object.number n (r .objects)) (bare-at l p)
-    ∙ find-map Held.object Object.number n (partitionAt l p .objects)
+-- what a frame sees of the ledger without the bytes, beside any memory
+abbrev pub sees : ℕ → Ledger → List Entry → Credential → Scope Object
+sees M l es c = withMemory es (bareScope (ledgerScope M l c))
 
+-- and put back
+pub bare-back : (x : Fields) (s : Scope Held) (l : Ledger)
+    → tablesOf (withScope (x .cred) s l) ≡ withScope (x .cred) (bareScope s) (tablesOf l)
+unfolding tablesOf
+bare-back x s l = ap (λ (ps : List (Partition Object)). record { highWater = l .highWater; keys = s .keys; partitions = ps })
+    (update-map bare (λ (old : Partition Held). s .partition) (λ (old : Partition Object). bare (s .partition))
+    (λ p. refl) (x .cred .partition) (l .partitions))
+
+-- ---- an object that a partition has without the bytes, it has with them
 missing-map : (o : Option Held) → missing (Option·map Held.object o) ≡ missing o
 unfolding missing
 missing-map none = refl
 missing-map (some h) = refl
 
-pub missing-is : (l : Ledger) (p n : ℕ) → missing (find numberOf n (partitionAt l p .objects))
-    ≡ missing (find Object.number n (partitionAt (tablesOf l) p .objects))
-missing-is l p n = sym (missing-map (find numberOf n (partitionAt l p .objects))) ∙ ap missing (sym (found-is l p n))
+module _ (p : Partition Held) (n : ℕ) where
+  found-is : find Object.number n (bare p .objects) ≡ Option·map Held.object (find numberOf n (p .objects))
+  found-is = find-map Held.object Object.number n (p .objects)
 
--- the one that a frame is about
-pub the-held : (l : Ledger) (x : Fields) → missing (named (tablesOf l) x) ≡ false
-    → (h : Held) × (find numberOf (x .cred .object) (partitionAt l (x .cred .partition) .objects) ≡ some h)
-    × List·Memᴰ h (partitionAt l (x .cred .partition) .objects) × (numberOf h ≡ x .cred .object)
-unfolding named
-the-held l x e = found numberOf (x .cred .object) (partitionAt l (x .cred .partition) .objects)
-    (missing-is l (x .cred .partition) (x .cred .object) ∙ e)
+  pub missing-is : missing (find numberOf n (p .objects)) ≡ missing (find Object.number n (bare p .objects))
+  missing-is = sym (missing-map (find numberOf n (p .objects))) ∙ ap missing (sym found-is)
 
-pub the-object : (l : Ledger) (x : Fields) (e : missing (named (tablesOf l) x) ≡ false)
-    → objectOf (tablesOf l) x ≡ the-held l x e .0 .object
-unfolding objectOf named
-the-object l x e = ap (λ (o : Option Object). Option·getD o noObject)
-    (found-is l (x .cred .partition) (x .cred .object)
-    ∙ ap (λ (o : Option Held). Option·map Held.object o) (the-held l x e .1))
+  pub the-held : missing (find Object.number n (bare p .objects)) ≡ false
+      → (h : Held) × (find numberOf n (p .objects) ≡ some h) × List·Memᴰ h (p .objects) × (numberOf h ≡ n)
+  the-held e = found numberOf n (p .objects) (missing-is ∙ e)
+
+  pub the-object : (e : missing (find Object.number n (bare p .objects)) ≡ false)
+      → Option·getD (find Object.number n (bare p .objects)) noObject ≡ the-held e .0 .object
+  the-object e = ap (λ (o : Option Object). Option·getD o noObject)
+      (found-is ∙ ap (λ (o : Option Held). Option·map Held.object o) (the-held e .1))

@@ -1,42 +1,30 @@
 -- What is known of a frame that no row refuses.
-use mathlib.Core.Path.{_∙_, _≡_, ap, refl, sym}
-use mathlib.Core.Logic.{_⊎_, inl, inr}
-use mathlib.Core.Bool.{_||_, Bool, cond, false, not, true, true≢false}
-use mathlib.Core.List.{List, List·Memᴰ}
+use mathlib.Core.Path.{_∙_, _≡_, ap, refl, subst}
+use mathlib.Core.Bool.{_||_, Bool, cond, false, not, true}
+use mathlib.Core.List.{[], _++_, _∷_, List, List·Memᴰ}
 use Prim.Native.Nat.{_+_, _<_, _≤_, suc, zero, ℕ}
 use native.Mathlib.Omega.{arith}
-use lib.ListN.{length}
-use borrow.Author.Tests.{eq-eqb, eqb-false, eqb-true, lt-ltb, ltb-false, ne-eqb, not-false}
+use lib.ListN.{getD, length}
+use borrow.Author.Tests.{eq-eqb, eqb-false, eqb-true, lt-ltb, ltb-false, ne-eqb, not-false, not-true}
 use Rattle.lemmas.specs.ListLaws.{every-member, not-found}
 use Rattle.lemmas.specs.Lists.{every, find, missing}
 use Rattle.lemmas.specs.Parts.{length-part}
-use Rattle.lemmas.specs.Rows.{applies, firstRow, none-applies}
-use Rattle.lemmas.specs.Tests.{_is_, _isnt_, _over_, _under_, and-false, none-of, or-intro-l, or-l, or-r}
+use Rattle.lemmas.specs.Rows.{applies, firstRow, line, none-applies, numbered, Row}
+use Rattle.lemmas.specs.Tests.{_is_, _isnt_, _over_, _under_, and-false, and-l, and-r, none-of, or-intro-l, or-l, or-r}
 use Rattle.rules.specs.declared.Object.{Object}
+use Rattle.rules.specs.declared.Request.{Request}
 use Rattle.rules.specs.BestFit.{bestFit, extentStep}
-use Rattle.rules.specs.Drive.{Drive, partitionAt, quarter, refresh, sound, soundObject}
-use Rattle.rules.specs.Frame.{
-  create,
-  delete,
-  Fields,
-  fields,
-  look,
-  memory,
-  Operation,
-  operation,
-  operationOf,
-  raise,
-  read,
-  setKey,
-  unknown,
-  write,
-}
+use Rattle.rules.specs.Drive.{Drive, refresh, sound, soundObject}
+use Rattle.rules.specs.declared.Operation.{Operation}
+use Rattle.rules.specs.declared.Operation.the-variants.{Create, Delete, Look, Raise, Read, SetKey, Write}
+use Rattle.rules.specs.Frame.{Fields, fields, memory, operation, operationOf, operations}
 use Rattle.rules.specs.Operations.{named, objectOf, placeOf, present, startOf}
 use Rattle.rules.specs.Rows.{
   bounds,
   credentialFaults,
   dataLength,
   driveRows,
+  scopeRows,
   frameRows,
   misfits,
   moves,
@@ -55,7 +43,9 @@ use Rattle.rules.specs.Rows.{
   row18,
   row19,
   row20,
+  row21,
   row22,
+  row23,
   row4,
   row5,
   row6,
@@ -63,9 +53,10 @@ use Rattle.rules.specs.Rows.{
   row9,
   rows,
 }
+use Rattle.rules.specs.Scope.{Scope, driveScope}
 use Rattle.rules.proofs.Holds.{CanWrite, Grant}
 use Rattle.rules.proofs.Placing.{placed}
-use Rattle.rules.proofs.Sound.{at-sound, CanCreate, object-is, partition-is, SoundPartition, SoundTables}
+use Rattle.rules.proofs.Sound.{CanCreate, object-is, partition-is, SoundPartition, SoundScope}
 
 -- ---- a frame that row 4 does not refuse: its partition is one of the four, its memory one of the five
 module _ (x : Fields) (clear4 : row4 (x .cred) (x .req) ≡ false) where
@@ -76,7 +67,7 @@ module _ (x : Fields) (clear4 : row4 (x .cred) (x .req) ≡ false) where
         (none-of (credentialFaults (x .cred)) (or-l (outsideCredential (x .cred)) (outsideRequest (x .req)) clear4) 0),
   )
 
-  pub low-memory : memory x < 5
+  pub low-memory : memory (x .cred) < 5
   unfolding memory
   low-memory = go (x .cred .slot under 3)
     where
@@ -84,72 +75,63 @@ module _ (x : Fields) (clear4 : row4 (x .cred) (x .req) ≡ false) where
       go true = omega (arith, low-partition)
       go false = omega arith
 
--- ---- the number of an operation
-abbrev pub code : Operation → ℕ
-code unknown = 8
-code read = 1
-code write = 2
-code look = 3
-code raise = 4
-code create = 5
-code delete = 6
-code setKey = 7
+-- ---- what a request asks for: the number and the arguments of its operation
+abbrev pub Asks : Request → Operation → Type 0
+Asks r (Read a b) = (r .operation ≡ 1) × (r .A ≡ a) × (r .B ≡ b)
+Asks r (Write a b) = (r .operation ≡ 2) × (r .A ≡ a) × (r .B ≡ b)
+-- (a byte outside 1 to 7 is read as one)
+Asks r Look = 1 ≤ r .operation → r .operation ≤ 7 → r .operation ≡ 3
+Asks r Raise = r .operation ≡ 4
+Asks r (Create a b) = (r .operation ≡ 5) × (r .A ≡ a) × (r .B ≡ b)
+Asks r Delete = r .operation ≡ 6
+Asks r (SetKey a) = (r .operation ≡ 7) × (r .A ≡ a)
 
-abbrev pub known : Operation → Bool
-known unknown = false
-known read = true
-known write = true
-known look = true
-known raise = true
-known create = true
-known delete = true
-known setKey = true
-
--- the operation of byte k is known, and its number is k; or it is not known
-code-is : (k : ℕ) → (code (operation k) ≡ k) ⊎ (known (operation k) ≡ false)
+pub asks-for : (r : Request) (o : Operation) → operation r ≡ o → Asks r o
 unfolding operation
-code-is zero = inr refl
-code-is (suc zero) = inl refl
-code-is (suc (suc zero)) = inl refl
-code-is (suc (suc (suc zero))) = inl refl
-code-is (suc (suc (suc (suc zero)))) = inl refl
-code-is (suc (suc (suc (suc (suc zero))))) = inl refl
-code-is (suc (suc (suc (suc (suc (suc zero)))))) = inl refl
-code-is (suc (suc (suc (suc (suc (suc (suc zero))))))) = inl refl
-code-is (suc (suc (suc (suc (suc (suc (suc (suc k)))))))) = inr refl
-
--- a byte of 1 to 7 is known
-known-of : (k : ℕ) → 1 ≤ k → k ≤ 7 → known (operation k) ≡ true
-unfolding operation
-known-of zero h l = absurd (omega arith)
-known-of (suc zero) h l = refl
-known-of (suc (suc zero)) h l = refl
-known-of (suc (suc (suc zero))) h l = refl
-known-of (suc (suc (suc (suc zero)))) h l = refl
-known-of (suc (suc (suc (suc (suc zero))))) h l = refl
-known-of (suc (suc (suc (suc (suc (suc zero)))))) h l = refl
-known-of (suc (suc (suc (suc (suc (suc (suc zero))))))) h l = refl
-known-of (suc (suc (suc (suc (suc (suc (suc (suc k)))))))) h l = absurd (omega arith)
-
-pub code-of : (k : ℕ) (o : Operation) → known o ≡ true → operation k ≡ o → k ≡ code o
-code-of k o h e = go (code-is k)
+asks-for r o e = subst (Asks r) e (go (r .operation) refl)
   where
-    go : (code (operation k) ≡ k) ⊎ (known (operation k) ≡ false) → k ≡ code o
-    go (inl c) = sym c ∙ ap code e
-    go (inr c) = absurd (true≢false (sym h ∙ (ap known (sym e) ∙ c)))
+    go : (k : ℕ) → r .operation ≡ k → Asks r (getD (Look ∷ operations r) k Look)
+    go zero h = λ i j. absurd (omega arith)
+    go (suc zero) h = (h, refl, refl)
+    go (suc (suc zero)) h = (h, refl, refl)
+    go (suc (suc (suc zero))) h = λ i j. h
+    go (suc (suc (suc (suc zero)))) h = h
+    go (suc (suc (suc (suc (suc zero))))) h = (h, refl, refl)
+    go (suc (suc (suc (suc (suc (suc zero)))))) h = h
+    go (suc (suc (suc (suc (suc (suc (suc zero))))))) h = (h, refl)
+    go (suc (suc (suc (suc (suc (suc (suc (suc k)))))))) h = λ i j. absurd (omega arith)
+
+-- ---- a frame that no row refuses: rows 2 to 7 by its own bytes, rows 8 to 23 by what it sees of a drive
+pub record Clear (f : List ℕ) (s : Scope Object) (space : List ℕ) : Type 0 where
+  pub frame : firstRow (frameRows f (fields f)) ≡ 0
+  pub drive : firstRow (driveRows s (fields f) space) ≡ 0
+
+-- no row of two tables, one after the other: none of either
+rows-zero : (rs bs : List Row) → numbered rs ≡ true → firstRow (rs ++ bs) ≡ 0 → (firstRow rs ≡ 0) × (firstRow bs ≡ 0)
+unfolding firstRow every
+rows-zero [] bs n z = (refl, z)
+rows-zero (r ∷ rs) bs n z = go (r .applies) z (rows-zero rs bs (and-r (r .row isnt 0) (numbered rs) n))
+  where
+    go : (b : Bool) → cond b (r .row) (firstRow (rs ++ bs)) ≡ 0
+        → (firstRow (rs ++ bs) ≡ 0 → (firstRow rs ≡ 0) × (firstRow bs ≡ 0))
+        → (cond b (r .row) (firstRow rs) ≡ 0) × (firstRow bs ≡ 0)
+    go true k ih = absurd (eqb-false (r .row) 0 (not-true (r .row is 0) (and-l (r .row isnt 0) (numbered rs) n)) k)
+    go false k ih = ih k
 
 module _ (d : Drive) (m f : List ℕ) (clock : ℕ) (space : List ℕ) (g : firstRow (rows d m f clock space) ≡ 0) where
-  -- the drive with the new mark and no outlived entry
-  abbrev e : Drive
-  e = refresh clock d
-
-  clear : (n : ℕ) → applies n (rows d m f clock space) ≡ false
-  unfolding rows frameRows driveRows every
-  clear n = none-applies (rows d m f clock space) refl g n
+  pub cleared : Clear f (driveScope (refresh clock d) (fields f .cred)) space
+  unfolding rows frameRows every
+  cleared =
+      let later : List Row = driveRows (driveScope (refresh clock d) (fields f .cred)) (fields f) space in
+      let z = rows-zero (line 1 (row1 d m) ∷ frameRows f (fields f)) later refl g in
+      record {
+        frame = rows-zero (line 1 (row1 d m) ∷ []) (frameRows f (fields f)) refl (z .0) .1;
+        drive = z .1;
+      }
 
   clear1 : row1 d m ≡ false
-  unfolding rows frameRows driveRows applies
-  clear1 = clear 1
+  unfolding rows frameRows driveRows scopeRows every applies
+  clear1 = none-applies (rows d m f clock space) refl g 1
 
   pub is-sound : sound d ≡ true
   unfolding row1
@@ -160,197 +142,213 @@ module _ (d : Drive) (m f : List ℕ) (clock : ℕ) (space : List ℕ) (g : firs
   size-is = eqb-true (length m) (d .size) (not-false (length m is d .size)
       (or-r (not (sound d)) (length m isnt d .size) clear1))
 
-  clear4 : row4 (fields f .cred) (fields f .req) ≡ false
-  unfolding rows frameRows driveRows applies
-  clear4 = clear 4
+module _ {f : List ℕ} {s : Scope Object} {space : List ℕ} (g : Clear f s space) where
+  abbrev x : Fields
+  x = fields f
 
-  clear5 : row5 (fields f .req) f ≡ false
-  unfolding rows frameRows driveRows applies
-  clear5 = clear 5
+  by-frame : (n : ℕ) → applies n (frameRows f x) ≡ false
+  unfolding frameRows every
+  by-frame n = none-applies (frameRows f x) refl (g .frame) n
 
-  clear6 : row6 (fields f .cred) (fields f .req) ≡ false
-  unfolding rows frameRows driveRows applies
-  clear6 = clear 6
+  by-drive : (n : ℕ) → applies n (driveRows s x space) ≡ false
+  unfolding driveRows scopeRows every
+  by-drive n = none-applies (driveRows s x space) refl (g .drive) n
 
-  pub clear11 : row11 (e .tables) (fields f) ≡ false
-  unfolding rows frameRows driveRows applies
-  clear11 = clear 11
+  clear4 : row4 (x .cred) (x .req) ≡ false
+  unfolding frameRows applies
+  clear4 = by-frame 4
 
-  pub clear12 : row12 e (fields f) ≡ false
-  unfolding rows frameRows driveRows applies
-  clear12 = clear 12
+  clear5 : row5 (x .req) f ≡ false
+  unfolding frameRows applies
+  clear5 = by-frame 5
 
-  clear14 : row14 (e .tables) (fields f) ≡ false
-  unfolding rows frameRows driveRows applies
-  clear14 = clear 14
+  clear6 : row6 (x .cred) (x .req) ≡ false
+  unfolding frameRows applies
+  clear6 = by-frame 6
 
-  clear15 : row15 (e .tables) (fields f) ≡ false
-  unfolding rows frameRows driveRows applies
-  clear15 = clear 15
+  pub clear11 : row11 s (x .req) ≡ false
+  unfolding driveRows scopeRows applies
+  clear11 = by-drive 11
 
-  clear17 : row17 (e .tables) (fields f) ≡ false
-  unfolding rows frameRows driveRows applies
-  clear17 = clear 17
+  pub clear12 : row12 s (x .cred) (x .req) ≡ false
+  unfolding driveRows scopeRows applies
+  clear12 = by-drive 12
 
-  clear18 : row18 (e .tables) (fields f) ≡ false
-  unfolding rows frameRows driveRows applies
-  clear18 = clear 18
+  clear14 : row14 s (x .cred) ≡ false
+  unfolding driveRows scopeRows applies
+  clear14 = by-drive 14
 
-  clear19 : row19 (e .tables) (fields f) ≡ false
-  unfolding rows frameRows driveRows applies
-  clear19 = clear 19
+  clear15 : row15 s (x .cred) (x .req) ≡ false
+  unfolding driveRows scopeRows applies
+  clear15 = by-drive 15
 
-  clear20 : row20 (quarter (e .size)) (e .tables) (fields f) ≡ false
-  unfolding rows frameRows driveRows applies
-  clear20 = clear 20
+  clear17 : row17 s (x .cred) (x .req) ≡ false
+  unfolding driveRows scopeRows applies
+  clear17 = by-drive 17
 
-  pub clear22 : row22 e (fields f) ≡ false
-  unfolding rows frameRows driveRows applies
-  clear22 = clear 22
+  clear18 : row18 s (x .req) ≡ false
+  unfolding driveRows scopeRows applies
+  clear18 = by-drive 18
+
+  clear19 : row19 s (x .req) ≡ false
+  unfolding driveRows scopeRows applies
+  clear19 = by-drive 19
+
+  clear20 : row20 s (x .req) ≡ false
+  unfolding driveRows scopeRows applies
+  clear20 = by-drive 20
+
+  pub clear21 : row21 s (x .req) ≡ false
+  unfolding driveRows scopeRows applies
+  clear21 = by-drive 21
+
+  pub clear22 : row22 s ≡ false
+  unfolding driveRows scopeRows applies
+  clear22 = by-drive 22
+
+  pub clear23 : row23 (x .req) (length space) ≡ false
+  unfolding driveRows scopeRows applies
+  clear23 = by-drive 23
 
   -- rights, expiry, range, key and version are kept
-  pub bound : firstRow (bounds (e .tables) (fields f)) ≡ 0
-  unfolding rows frameRows driveRows applies bounds firstRow
+  pub bound : firstRow (bounds s x) ≡ 0
+  unfolding driveRows scopeRows applies bounds firstRow
   bound =
-      let h8 : row8 (e .tables) (fields f) ≡ false = clear 8 in
-      let h9 : row9 (e .tables) (fields f) ≡ false = clear 9 in
-      let h10 : row10 (e .tables) (fields f) ≡ false = clear 10 in
-      let h13 : row13 (fields f) ≡ false = clear 13 in
-      let h14 : row14 (e .tables) (fields f) ≡ false = clear 14 in
-      let h15 : row15 (e .tables) (fields f) ≡ false = clear 15 in
-      let h16 : row16 (fields f) ≡ false = clear 16 in
-      let h17 : row17 (e .tables) (fields f) ≡ false = clear 17 in
+      let h8 : row8 s (x .cred) ≡ false = by-drive 8 in
+      let h9 : row9 s x ≡ false = by-drive 9 in
+      let h10 : row10 s (x .cred) ≡ false = by-drive 10 in
+      let h13 : row13 (x .cred) (x .req) ≡ false = by-drive 13 in
+      let h14 : row14 s (x .cred) ≡ false = by-drive 14 in
+      let h15 : row15 s (x .cred) (x .req) ≡ false = by-drive 15 in
+      let h16 : row16 (x .cred) (x .req) ≡ false = by-drive 16 in
+      let h17 : row17 s (x .cred) (x .req) ≡ false = by-drive 17 in
       rw (h8, h9, h10, h13, h14, h15, h16, h17) refl
 
-  pub in-four : fields f .cred .partition < 4
-  in-four = low-partition (fields f) clear4
+  pub in-four : x .cred .partition < 4
+  in-four = low-partition x clear4
 
-  pub in-five : memory (fields f) < 5
-  in-five = low-memory (fields f) clear4
+  pub in-five : memory (x .cred) < 5
+  in-five = low-memory x clear4
 
-  pub is-known : known (operationOf (fields f)) ≡ true
-  is-known =
-      let h : outsideRequest (fields f .req) ≡ false =
-      or-r (outsideCredential (fields f .cred)) (outsideRequest (fields f .req)) clear4 in
-      known-of (fields f .req .operation)
-      (ltb-false (fields f .req .operation) 1 (none-of (requestFaults (fields f .req)) h 0))
-      (ltb-false 7 (fields f .req .operation) (none-of (requestFaults (fields f .req)) h 1))
+  pub in-seven : (1 ≤ x .req .operation) × (x .req .operation ≤ 7)
+  in-seven =
+      let h : outsideRequest (x .req) ≡ false =
+      or-r (outsideCredential (x .cred)) (outsideRequest (x .req)) clear4 in (
+        ltb-false (x .req .operation) 1 (none-of (requestFaults (x .req)) h 0),
+        ltb-false 7 (x .req .operation) (none-of (requestFaults (x .req)) h 1),
+      )
 
   -- the operation is k
   abbrev Is : ℕ → Type 0
-  Is k = (fields f .req .operation is k) ≡ true
+  Is k = (x .req .operation is k) ≡ true
 
   -- an object, not 0, is there, and operations 1 to 6 name its version
-  pub exists : (fields f .cred .object ≡ 0 → ⊥) → missing (named (e .tables) (fields f)) ≡ false
+  pub exists : (x .cred .object ≡ 0 → ⊥) → missing (named s (x .cred)) ≡ false
   unfolding row14
-  exists h = and-false (fields f .cred .object isnt 0) (missing (named (e .tables) (fields f)))
-      (ap not (ne-eqb (fields f .cred .object) 0 h)) clear14
+  exists h = and-false (x .cred .object isnt 0) (missing (named s (x .cred)))
+      (ap not (ne-eqb (x .cred .object) 0 h)) clear14
 
-  pub version-is : fields f .req .operation ≤ 6 → fields f .cred .version ≡ present (e .tables) (fields f)
+  pub version-is : x .req .operation ≤ 6 → x .cred .version ≡ present s (x .cred)
   unfolding row15
-  version-is h = eqb-true (fields f .cred .version) (present (e .tables) (fields f))
-      (not-false (fields f .cred .version is present (e .tables) (fields f))
-      (and-false (fields f .req .operation under 7) (fields f .cred .version isnt present (e .tables) (fields f))
-      (lt-ltb (fields f .req .operation) 7 (omega arith)) clear15))
+  version-is h = eqb-true (x .cred .version) (present s (x .cred))
+      (not-false (x .cred .version is present s (x .cred))
+      (and-false (x .req .operation under 7) (x .cred .version isnt present s (x .cred))
+      (lt-ltb (x .req .operation) 7 (omega arith)) clear15))
 
   -- what is read, written or deleted is an object
-  whole : (fields f .req .operation is 1 || fields f .req .operation is 2 || fields f .req .operation is 6) ≡ true
-      → fields f .cred .object ≡ 0 → ⊥
-  whole h = eqb-false (fields f .cred .object) 0
-      (and-false (fields f .req .operation is 1 || fields f .req .operation is 2 || fields f .req .operation is 6)
-      (fields f .cred .object is 0) h (none-of (misfits (fields f .cred) (fields f .req)) clear6 2))
+  whole : (x .req .operation is 1 || x .req .operation is 2 || x .req .operation is 6) ≡ true
+      → x .cred .object ≡ 0 → ⊥
+  whole h = eqb-false (x .cred .object) 0
+      (and-false (x .req .operation is 1 || x .req .operation is 2 || x .req .operation is 6)
+      (x .cred .object is 0) h (none-of (misfits (x .cred) (x .req)) clear6 2))
 
-  pub deletes-object : operationOf (fields f) ≡ delete → fields f .cred .object ≡ 0 → ⊥
-  deletes-object o = whole (rw (code-of (fields f .req .operation) delete refl o) refl)
+  pub deletes-object : operationOf x ≡ Delete → x .cred .object ≡ 0 → ⊥
+  deletes-object o = whole (rw (asks-for (x .req) Delete o) refl)
 
   -- an object that a frame for reading or writing names is there, and the bytes are inside it
-  pub there : moves (fields f .req) ≡ true → missing (named (e .tables) (fields f)) ≡ false
-  there h = exists (whole (or-intro-l (fields f .req .operation is 1 || fields f .req .operation is 2)
-      (fields f .req .operation is 6) h))
+  pub there : moves (x .req) ≡ true → missing (named s (x .cred)) ≡ false
+  there h = exists (whole (or-intro-l (x .req .operation is 1 || x .req .operation is 2)
+      (x .req .operation is 6) h))
 
-  pub in-object : moves (fields f .req) ≡ true → fields f .req .A + fields f .req .B ≤ objectOf (e .tables)
-      (fields f) .size
+  pub in-object : moves (x .req) ≡ true → x .req .A + x .req .B ≤ objectOf s (x .cred) .size
   unfolding row17
   in-object h =
-      ltb-false (objectOf (e .tables) (fields f) .size) (fields f .req .A + fields f .req .B)
-      (and-false (moves (fields f .req)) (fields f .req .A + fields f .req .B over objectOf (e .tables)
-      (fields f) .size) h clear17)
+      ltb-false (objectOf s (x .cred) .size) (x .req .A + x .req .B)
+      (and-false (moves (x .req)) (x .req .A + x .req .B over objectOf s (x .cred) .size) h clear17)
 
   -- reads and writes move bytes
-  pub read-moves : operationOf (fields f) ≡ read → moves (fields f .req) ≡ true
-  read-moves o = rw (code-of (fields f .req .operation) read refl o) refl
+  pub read-moves : {a b : ℕ} → operationOf x ≡ Read a b → moves (x .req) ≡ true
+  read-moves o = rw (asks-for (x .req) (Read _ _) o .0) refl
 
-  pub write-moves : operationOf (fields f) ≡ write → moves (fields f .req) ≡ true
-  write-moves o = rw (code-of (fields f .req .operation) write refl o) refl
+  pub write-moves : {a b : ℕ} → operationOf x ≡ Write a b → moves (x .req) ≡ true
+  write-moves o = rw (asks-for (x .req) (Write _ _) o .0) refl
 
-  data-length : length (fields f .payload) ≡ fields f .req .n
+  data-length : length (x .payload) ≡ x .req .n
   unfolding fields
   data-length =
-      length-part f 64 (fields f .req .n)
+      length-part f 64 (x .req .n)
       (omega (
         arith,
-        eqb-true (length f) (96 + fields f .req .n)
-            (not-false (length f is 96 + fields f .req .n) (search (or-l, or-r, clear5))),
+        eqb-true (length f) (96 + x .req .n)
+            (not-false (length f is 96 + x .req .n) (search (or-l, or-r, clear5))),
       ))
 
-  can-write : operationOf (fields f) ≡ write → CanWrite (e .tables) (fields f)
-  can-write o = record {
-    there = there (write-moves o);
-    fits = in-object (write-moves o);
-    len = data-length
-        ∙ eqb-true (fields f .req .n) (dataLength (fields f .req))
-        (not-false (fields f .req .n is dataLength (fields f .req)) (search (or-l, clear5)))
-        ∙ ap (λ (k : ℕ). cond (k is 2) (fields f .req .B) (cond (k is 7) 16 0))
-        (code-of (fields f .req .operation) write refl o);
-  }
-
-  pub number-free : operationOf (fields f) ≡ create
-      → missing (find Object.number (fields f .req .A) (partitionAt (e .tables)
-      (fields f .cred .partition) .objects)) ≡ true
-  unfolding row18
-  number-free o =
-      not-false (missing (find Object.number (fields f .req .A) (partitionAt (e .tables)
-      (fields f .cred .partition) .objects)))
-      (and-false (fields f .req .operation is 5)
-      (not (missing (find Object.number (fields f .req .A) (partitionAt (e .tables)
-      (fields f .cred .partition) .objects))))
-      (eq-eqb (fields f .req .operation) 5 (code-of (fields f .req .operation) create refl o)) clear18)
-
-  can-create : SoundTables (quarter (e .size)) (e .tables) → operationOf (fields f) ≡ create
-      → CanCreate (quarter (e .size)) (e .tables) (fields f)
-  unfolding placeOf startOf row19 row20
-  can-create s o =
-      let k : Is 5 = eq-eqb (fields f .req .operation) 5 (code-of (fields f .req .operation) create refl o) in
-      let h6 : (fields f .req .A is 0 || fields f .req .B is 0) ≡ false =
-      and-false (fields f .req .operation is 5) (fields f .req .A is 0 || fields f .req .B is 0) k
-      (none-of (misfits (fields f .cred) (fields f .req)) clear6 5) in
-      let a0 : fields f .req .A ≡ 0 → ⊥ = eqb-false (fields f .req .A) 0 (or-l (fields f .req .A is 0) (fields f .req .B is 0) h6) in
-      let b0 : fields f .req .B ≡ 0 → ⊥ = eqb-false (fields f .req .B) 0 (or-r (fields f .req .A is 0) (fields f .req .B is 0) h6) in
-      let full : length here ≡ 16 → ⊥ = eqb-false (length here) 16
-      (and-false (fields f .req .operation is 5) (length here is 16) k clear19) in
+  can-write : (a b : ℕ) → operationOf x ≡ Write a b → CanWrite s x a b
+  can-write a b o =
+      let k = asks-for (x .req) (Write a b) o in
       record {
-        number = omega arith;
-        size = omega arith;
-        free = not-found Object.number (fields f .req .A) here (number-free o);
+        there = there (write-moves o);
+        fits = omega (arith, k .1, k .2, in-object (write-moves o));
+        len = data-length
+            ∙ eqb-true (x .req .n) (dataLength (x .req))
+            (not-false (x .req .n is dataLength (x .req)) (search (or-l, clear5)))
+            ∙ rw (k .0) (k .2);
+      }
+
+  pub number-free : (a b : ℕ) → operationOf x ≡ Create a b
+      → missing (find Object.number a (s .partition .objects)) ≡ true
+  unfolding row18
+  number-free a b o =
+      let k = asks-for (x .req) (Create a b) o in
+      subst (λ (n : ℕ). missing (find Object.number n (s .partition .objects)) ≡ true) (k .1)
+      (not-false (missing (find Object.number (x .req .A) (s .partition .objects)))
+      (and-false (x .req .operation is 5)
+      (not (missing (find Object.number (x .req .A) (s .partition .objects))))
+      (eq-eqb (x .req .operation) 5 (k .0)) clear18))
+
+  can-create : SoundScope s → (a b : ℕ) → operationOf x ≡ Create a b → CanCreate s a b
+  unfolding placeOf startOf row19 row20
+  can-create h a b o =
+      let k = asks-for (x .req) (Create a b) o in
+      let is5 : Is 5 = eq-eqb (x .req .operation) 5 (k .0) in
+      let h6 : (x .req .A is 0 || x .req .B is 0) ≡ false =
+      and-false (x .req .operation is 5) (x .req .A is 0 || x .req .B is 0) is5
+      (none-of (misfits (x .cred) (x .req)) clear6 5) in
+      let a0 : x .req .A ≡ 0 → ⊥ = eqb-false (x .req .A) 0 (or-l (x .req .A is 0) (x .req .B is 0) h6) in
+      let b0 : x .req .B ≡ 0 → ⊥ = eqb-false (x .req .B) 0 (or-r (x .req .A is 0) (x .req .B is 0) h6) in
+      let full : length here ≡ 16 → ⊥ = eqb-false (length here) 16
+      (and-false (x .req .operation is 5) (length here is 16) is5 clear19) in
+      let fit : missing (bestFit extentStep (s .quarter) here b) ≡ false =
+      subst (λ (n : ℕ). missing (bestFit extentStep (s .quarter) here n) ≡ false) (k .2)
+      (and-false (x .req .operation is 5) (missing (bestFit extentStep (s .quarter) here (x .req .B))) is5 clear20) in
+      record {
+        number-one = omega (arith, k .1);
+        size-one = omega (arith, k .2);
+        free = not-found Object.number a here (number-free a b o);
         room = omega (arith, it .count);
-        place = placed extentStep (quarter (e .size)) here (fields f .req .B) (omega arith) sized (omega arith)
-            (and-false (fields f .req .operation is 5)
-            (missing (bestFit extentStep (quarter (e .size)) here (fields f .req .B))) k clear20);
+        place = placed extentStep (s .quarter) here b (omega arith) sized (omega (arith, k .2)) fit;
       }
     where
       here : List Object
-      here = partitionAt (e .tables) (fields f .cred .partition) .objects
+      here = s .partition .objects
 
-      it : SoundPartition (quarter (e .size)) (partitionAt (e .tables) (fields f .cred .partition))
-      it = partition-is (quarter (e .size)) (partitionAt (e .tables) (fields f .cred .partition))
-          (at-sound (quarter (e .size)) (e .tables) (fields f .cred .partition) s)
+      it : SoundPartition (s .quarter) (s .partition)
+      it = partition-is (s .quarter) (s .partition) h
 
       sized : (a : Object) → List·Memᴰ a here → 1 ≤ a .size
       sized a k =
-          object-is (quarter (e .size)) (partitionAt (e .tables) (fields f .cred .partition) .last) a
-          (every-member (soundObject (quarter (e .size)) (partitionAt (e .tables) (fields f .cred .partition) .last))
-          here a (it .each) k) .size
+          object-is (s .quarter) (s .partition .last) a
+          (every-member (soundObject (s .quarter) (s .partition .last)) here a (it .each) k) .size
 
-  pub grant : SoundTables (quarter (e .size)) (e .tables)
-      → Grant (operationOf (fields f)) (quarter (e .size)) (e .tables) (fields f)
-  grant s = record { partition = in-four; writes = can-write; creates = can-create s }
+  pub grant : SoundScope s → Grant (operationOf x) s x
+  grant h = record { partition = in-four; writes = can-write; creates = can-create h }

@@ -47,7 +47,9 @@ use Rattle.rules.specs.Drive.{
 use Rattle.rules.specs.Frame.{fields}
 use Rattle.rules.specs.Gate.{Call}
 use Rattle.rules.specs.Ledger.{bare, feed, Held, Ledger, ledger, start, tablesOf}
-use Rattle.rules.specs.Rows.{bounds}
+use Rattle.rules.specs.Operations.{named, objectOf, present}
+use Rattle.rules.specs.Rows.{bounds, row10, row14, row15, row17, row8, row9}
+use Rattle.rules.specs.Scope.{Scope}
 use Rattle.rules.proofs.Clear.{bound}
 use Rattle.rules.proofs.Holds.{quarter-below}
 use Rattle.rules.proofs.Known.{granted-known, Known, known-not-granted, step-known}
@@ -61,7 +63,7 @@ use Rattle.rules.proofs.Sound.{
   SoundTables,
   unused-sound,
 }
-use Rattle.rules.proofs.Step.{fedOf, fresh-inv, Inv, inv-sound, row-zero, step-inv}
+use Rattle.rules.proofs.Step.{clear-of, fedOf, Inv, inv-sound, row-zero, sees-is, step-inv}
 
 -- ---- format
 empty : {A : Type 0} → List A → Bool
@@ -218,6 +220,8 @@ agree M s l v = record {
 
 -- ---- demand 3, from any state and ledger of which the invariant holds
 demand : (M : ℕ) (s : State) (l : Ledger) (calls : List Call) → Inv M s l → Demand3 M s l calls
+-- (the rows that the ledger judges look at no memory)
+unfolding bounds row8 row9 row10 row14 row15 row17 named objectOf present
 demand M s l calls v = record {
   noRepeat = λ before between later c d e gc gd same.
       let u = run-inv M s l before v in
@@ -231,12 +235,12 @@ demand M s l calls v = record {
       (subst₂ (λ (n : Nonce) (w : State). Known n (w .drive)) same (sym (after-append s before c between)) k) gd;
   kept = λ before later c e g.
       let u = run-inv M s l before v in
-      subst (λ (t : Tables Object). firstRow (bounds t (fields (c .frame))) ≡ 0)
-      (fresh-inv M (after s before) (ledger M l (fed s before)) c u .tables)
-      (bound (after s before .drive) (after s before .medium) (c .frame) (c .clock) (c .space)
-      (row-zero M (after s before) (ledger M l (fed s before)) c u g));
-  shown = λ before later c e g o. read-shown M (after s before) (ledger M l (fed s before)) c
-      (run-inv M s l before v) g o;
+      subst (λ (t : Scope Object). firstRow (bounds t (fields (c .frame))) ≡ 0)
+      (sees-is M (after s before) (ledger M l (fed s before)) c u)
+      (bound (clear-of M (after s before) (ledger M l (fed s before)) c u
+      (row-zero M (after s before) (ledger M l (fed s before)) c u g)));
+  shown = λ before later c A B e g o. read-shown M (after s before) (ledger M l (fed s before)) c
+      (run-inv M s l before v) g A B o;
   agrees = λ before later e. agree M (after s before) (ledger M l (fed s before)) (run-inv M s l before v);
 }
 

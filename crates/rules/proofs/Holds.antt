@@ -14,17 +14,22 @@ use Rattle.lemmas.specs.ListLaws.{every-member, every-unmap, length-update, mem
 use Rattle.lemmas.specs.Lists.{change, every, missing, part, splice, update}
 use Rattle.lemmas.specs.Parts.{length-splice, part-apart, part-inside, part-new}
 use Rattle.lemmas.specs.Tests.{_is_, _isnt_, and-l, and-r, or-cases}
+use Rattle.rules.specs.declared.Entry.{Entry}
 use Rattle.rules.specs.declared.Object.{Object}
-use Rattle.rules.specs.Drive.{apart, at, Partition, partitionAt, quarter, soundObject, Tables, unused}
-use Rattle.rules.specs.Frame.{create, delete, Fields, look, Operation, raise, read, setKey, unknown, write}
+use Rattle.rules.specs.Drive.{apart, Keys, Partition, partitionAt, quarter, soundObject, soundPartition, unused}
+use Rattle.rules.specs.declared.Operation.{Operation}
+use Rattle.rules.specs.declared.Operation.the-variants.{Create, Delete, Look, Raise, Read, SetKey, Write}
+use Rattle.rules.specs.Frame.{Fields}
 use Rattle.rules.specs.Ledger.{
   bare,
+  bareScope,
   gone,
   Held,
   heldVersion,
   joined,
   Ledger,
   ledgerAfter,
+  ledgerScope,
   numberOf,
   raisedHere,
   start,
@@ -32,30 +37,33 @@ use Rattle.rules.specs.Ledger.{
   written,
   wrote,
 }
-use Rattle.rules.specs.Operations.{extentStart, mediumAfter, named, objectOf, startOf}
-use Rattle.rules.proofs.Bare.{bare-after, bare-at, the-held, the-object}
+use Rattle.rules.specs.Operations.{extentStart, keySet, named, objectOf, perform, placeOf, startOf}
+use Rattle.rules.specs.Scope.{withScope, Scope, withKeys}
+use Rattle.rules.proofs.Bare.{bare-after, bare-at, bare-back, sees, the-held, the-object}
 use Rattle.rules.proofs.Placing.{clearOf}
 use Rattle.rules.proofs.Sound.{
   at-sound,
+  back-sound,
   CanCreate,
   object-is,
   partition-is,
+  scope-sound,
   SoundObject,
   SoundPartition,
+  SoundScope,
   SoundTables,
-  tables-sound,
 }
 
 -- ---- what is known of a grant
-pub record CanWrite (t : Tables Object) (x : Fields) : Type 0 where
-  pub there : missing (named t x) ≡ false
-  pub fits : x .req .A + x .req .B ≤ objectOf t x .size
-  pub len : length (x .payload) ≡ x .req .B
+pub record CanWrite (s : Scope Object) (x : Fields) (offset size : ℕ) : Type 0 where
+  pub there : missing (named s (x .cred)) ≡ false
+  pub fits : offset + size ≤ objectOf s (x .cred) .size
+  pub len : length (x .payload) ≡ size
 
-pub record Grant (o : Operation) (q : ℕ) (t : Tables Object) (x : Fields) : Type 0 where
+pub record Grant (o : Operation) (s : Scope Object) (x : Fields) : Type 0 where
   pub partition : x .cred .partition < 4
-  pub writes : o ≡ write → CanWrite t x
-  pub creates : o ≡ create → CanCreate q t x
+  pub writes : (offset size : ℕ) → o ≡ Write offset size → CanWrite s x offset size
+  pub creates : (number size : ℕ) → o ≡ Create number size → CanCreate s number size
 
 -- ---- what is known of ledger and medium
 abbrev pub Bytes : ℕ → List ℕ → Ledger → Type 0
@@ -175,90 +183,102 @@ module _ (M : ℕ) (m : List ℕ) (l : Ledger) (g : Good M m l) where
           inr (omega (arith, quarter-below (quarter M) r p e′, held-sound r h k .inside))
 
   -- the bytes after one partition has changed: there, and elsewhere
-  bytes-at : (p : ℕ) (f : Partition Held → Partition Held) (m′ : List ℕ) → p < 4
-      → ((h : Held) → List·Memᴰ h (f (partitionAt l p) .objects)
-      → part m′ (p * quarter M + h .object .start) (h .object .size) ≡ h .bytes)
-      → ((r : ℕ) (h : Held) → (r ≡ p → ⊥) → List·Memᴰ h (partitionAt l r .objects)
+  bytes-at : (x : Fields) (s : Scope Held) (m′ : List ℕ) → x .cred .partition < 4
+      → ((h : Held) → List·Memᴰ h (s .partition .objects)
+      → part m′ (x .cred .partition * quarter M + h .object .start) (h .object .size) ≡ h .bytes)
+      → ((r : ℕ) (h : Held) → (r ≡ x .cred .partition → ⊥) → List·Memᴰ h (partitionAt l r .objects)
       → part m′ (r * quarter M + h .object .start) (h .object .size) ≡ h .bytes)
-      → Bytes M m′ (at p f l)
-  bytes-at p f m′ hp here there r h k = go (ℕ-discrete r p)
+      → Bytes M m′ (withScope (x .cred) s l)
+  bytes-at x s m′ hp here there r h k = go (ℕ-discrete r p)
     where
+      p : ℕ
+      p = x .cred .partition
+
+      new : Partition Held → Partition Held
+      new old = s .partition
+
       go : Dec (r ≡ p) → part m′ (r * quarter M + h .object .start) (h .object .size) ≡ h .bytes
       go (yes e) =
           rw e (here h (subst (λ (s : Partition Held). List·Memᴰ h (s .objects))
-          (nth-update p f (l .partitions) (unused 0) (omega (arith, g .four)))
-          (subst (λ (n : ℕ). List·Memᴰ h (getD (update p f (l .partitions)) n (unused 0) .objects)) e k)))
+          (nth-update p new (l .partitions) (unused 0) (omega (arith, g .four)))
+          (subst (λ (n : ℕ). List·Memᴰ h (getD (update p new (l .partitions)) n (unused 0) .objects)) e k)))
       go (no e) = there r h e (subst (λ (s : Partition Held). List·Memᴰ h (s .objects))
-          (nth-update-other p r f (l .partitions) (unused 0) e) k)
+          (nth-update-other p r new (l .partitions) (unused 0) e) k)
 
   still : (p : ℕ) (r : ℕ) (h : Held) → (r ≡ p → ⊥) → List·Memᴰ h (partitionAt l r .objects)
       → part m (r * quarter M + h .object .start) (h .object .size) ≡ h .bytes
   still p r h e k = g .bytes r h k
 
+  -- the ledger after a grant, and what its frame sees of it before, beside any memory
+  abbrev after : Operation → Fields → Ledger
+  after o x = withScope (x .cred) (ledgerAfter o (ledgerScope M l (x .cred)) x) l
+
   -- ---- 2. Write
-  written-bytes : (x : Fields) (k : Held) → x .cred .partition < 4
+  written-bytes : (x : Fields) (offset size : ℕ) (k : Held) → x .cred .partition < 4
       → List·Memᴰ k (partitionAt l (x .cred .partition) .objects) → numberOf k ≡ x .cred .object
-      → x .req .A + length (x .payload) ≤ k .object .size
-      → Bytes M (splice m (x .cred .partition * quarter M + k .object .start + x .req .A) (x .payload))
-      (at (x .cred .partition) (written x) l)
-  unfolding written wrote Lies
-  written-bytes x k hp i e fit =
-      bytes-at p (written x) m′ hp (λ h j. here h
-      (member-change numberOf (x .cred .object) (wrote x) (partitionAt l p .objects) h j))
+      → offset + length (x .payload) ≤ k .object .size
+      → Bytes M (splice m (x .cred .partition * quarter M + k .object .start + offset) (x .payload))
+      (after (Write offset size) x)
+  unfolding ledgerAfter written wrote Lies
+  written-bytes x offset size k hp i e fit =
+      bytes-at x (ledgerAfter (Write offset size) (ledgerScope M l (x .cred)) x) m′ hp (λ h j. here h
+      (member-change numberOf (x .cred .object) (wrote offset (x .payload)) (partitionAt l p .objects) h j))
       (λ r h ne j. subst (λ (n : ℕ). part (splice m n (x .payload)) (r * quarter M + h .object .start)
       (h .object .size) ≡ h .bytes)
-      (sym (add-assoc (p * quarter M) (k .object .start) (x .req .A)))
-      (elsewhere p (k .object .start + x .req .A) (x .payload) hp (omega (arith, held-sound p k i .inside)) r h ne j))
+      (sym (add-assoc (p * quarter M) (k .object .start) (offset)))
+      (elsewhere p (k .object .start + offset) (x .payload) hp (omega (arith, held-sound p k i .inside)) r h ne j))
     where
       p : ℕ
       p = x .cred .partition
 
       m′ : List ℕ
-      m′ = splice m (p * quarter M + k .object .start + x .req .A) (x .payload)
+      m′ = splice m (p * quarter M + k .object .start + offset) (x .payload)
 
       away : (h : Held) → List·Memᴰ h (partitionAt l p .objects) → Lies (k .object) (h .object)
           → part m′ (p * quarter M + h .object .start) (h .object .size) ≡ h .bytes
       away h j (inl a) =
-          part-apart m (x .payload) (p * quarter M + k .object .start + x .req .A) (p * quarter M + h .object .start)
+          part-apart m (x .payload) (p * quarter M + k .object .start + offset) (p * quarter M + h .object .start)
           (h .object .size)
           (omega (arith, inside p k i)) (inside p h j) (inl (omega arith))
           ∙ g .bytes p h j
       away h j (inr a) =
-          part-apart m (x .payload) (p * quarter M + k .object .start + x .req .A) (p * quarter M + h .object .start)
+          part-apart m (x .payload) (p * quarter M + k .object .start + offset) (p * quarter M + h .object .start)
           (h .object .size)
           (omega (arith, inside p k i)) (inside p h j) (inr (omega arith))
           ∙ g .bytes p h j
 
-      it : part m′ (p * quarter M + k .object .start) (k .object .size) ≡ splice (k .bytes) (x .req .A) (x .payload)
+      it : part m′ (p * quarter M + k .object .start) (k .object .size) ≡ splice (k .bytes) (offset) (x .payload)
       it =
-          part-inside m (x .payload) (p * quarter M + k .object .start) (x .req .A) (k .object .size) fit
+          part-inside m (x .payload) (p * quarter M + k .object .start) (offset) (k .object .size) fit
           (inside p k i)
-          ∙ ap (λ (b : List ℕ). splice b (x .req .A) (x .payload)) (g .bytes p k i)
+          ∙ ap (λ (b : List ℕ). splice b (offset) (x .payload)) (g .bytes p k i)
 
       here : (h : Held)
           → (List·Memᴰ h (partitionAt l p .objects) × (numberOf h ≡ x .cred .object → ⊥))
           ⊎ ((b : Held) × List·Memᴰ b (partitionAt l p .objects) × (numberOf b ≡ x .cred .object)
-          × (h ≡ wrote x b))
+          × (h ≡ wrote offset (x .payload) b))
           → part m′ (p * quarter M + h .object .start) (h .object .size) ≡ h .bytes
       here h (inl r) = away h (r .0) (lie-apart p h k (r .0) i (λ f. r .1 (f ∙ e)))
       here h (inr r) =
           subst (λ (h : Held). part m′ (p * quarter M + h .object .start) (h .object .size) ≡ h .bytes)
-          (sym (r .3 ∙ ap (wrote x) (unique p (r .0) k (r .1) i (r .2 ∙ sym e)))) it
+          (sym (r .3 ∙ ap (wrote offset (x .payload)) (unique p (r .0) k (r .1) i (r .2 ∙ sym e)))) it
 
-  write-bytes : (x : Fields) → x .cred .partition < 4 → CanWrite (tablesOf l) x
-      → Bytes M (splice m (extentStart (quarter M) (tablesOf l) x + x .req .A) (x .payload))
-      (at (x .cred .partition) (written x) l)
-  unfolding extentStart
-  write-bytes x hp c =
-      rw (the-object l x (c .there))
-      (written-bytes x (the-held l x (c .there) .0) hp (the-held l x (c .there) .2) (the-held l x (c .there) .3)
-      (omega (arith, c .len, c .fits, ap Object.size (the-object l x (c .there)))))
+  write-bytes : (es : List Entry) (x : Fields) (offset size : ℕ) → x .cred .partition < 4
+      → CanWrite (sees M l es (x .cred)) x offset size
+      → Bytes M (splice m (extentStart (sees M l es (x .cred)) (x .cred) + offset) (x .payload)) (after (Write offset size) x)
+  unfolding extentStart objectOf named
+  write-bytes es x offset size hp c =
+      let p : Partition Held = partitionAt l (x .cred .partition) in
+      let n : ℕ = x .cred .object in
+      rw (the-object p n (c .there))
+      (written-bytes x offset size (the-held p n (c .there) .0) hp (the-held p n (c .there) .2) (the-held p n (c .there) .3)
+      (omega (arith, c .len, c .fits, ap Object.size (the-object p n (c .there)))))
 
   -- ---- 4. Raise
-  raise-bytes : (x : Fields) → x .cred .partition < 4
-      → Bytes M m (at (x .cred .partition) (raisedHere (x .cred .object)) l)
-  unfolding raisedHere
-  raise-bytes x hp = bytes-at p (raisedHere (x .cred .object)) m hp (λ h j. here h (x .cred .object is 0) j) (still p)
+  raise-bytes : (x : Fields) → x .cred .partition < 4 → Bytes M m (after Raise x)
+  unfolding ledgerAfter raisedHere
+  raise-bytes x hp =
+      bytes-at x (ledgerAfter Raise (ledgerScope M l (x .cred)) x) m hp (λ h j. here h (x .cred .object is 0) j) (still p)
     where
       p : ℕ
       p = x .cred .partition
@@ -284,13 +304,13 @@ module _ (M : ℕ) (m : List ℕ) (l : Ledger) (g : Good M m l) where
           (partitionAt l p .objects) h j)
 
   -- ---- 5. Create
-  create-bytes : (x : Fields) → x .cred .partition < 4 → CanCreate (quarter M) (tablesOf l) x
-      → Bytes M (splice m (x .cred .partition * quarter M + startOf (quarter M) (tablesOf l) x)
-      (replicate (x .req .B) 0))
-      (at (x .cred .partition) (joined (x .req .A) (x .req .B) (startOf (quarter M) (tablesOf l) x)) l)
-  unfolding joined
-  create-bytes x hp c =
-      bytes-at p (joined (x .req .A) (x .req .B) s) m′ hp
+  create-bytes : (es : List Entry) (x : Fields) (number size : ℕ) → x .cred .partition < 4
+      → CanCreate (sees M l es (x .cred)) number size
+      → Bytes M (splice m (x .cred .partition * quarter M + startOf (sees M l es (x .cred)) size) (replicate size 0))
+      (after (Create number size) x)
+  unfolding ledgerAfter joined startOf placeOf
+  create-bytes es x number size hp c =
+      bytes-at x (ledgerAfter (Create number size) (ledgerScope M l (x .cred)) x) m′ hp
       (λ h j. here h (List·Memᴰ·append-cases (partitionAt l p .objects) j))
       (elsewhere p s zeros hp (rw len (c .place .inside)))
     where
@@ -298,13 +318,13 @@ module _ (M : ℕ) (m : List ℕ) (l : Ledger) (g : Good M m l) where
       p = x .cred .partition
 
       s : ℕ
-      s = startOf (quarter M) (tablesOf l) x
+      s = startOf (sees M l es (x .cred)) size
 
       zeros : List ℕ
-      zeros = replicate (x .req .B) 0
+      zeros = replicate size 0
 
-      len : length zeros ≡ x .req .B
-      len = length-replicate (x .req .B) 0
+      len : length zeros ≡ size
+      len = length-replicate size 0
 
       m′ : List ℕ
       m′ = splice m (p * quarter M + s) zeros
@@ -312,10 +332,9 @@ module _ (M : ℕ) (m : List ℕ) (l : Ledger) (g : Good M m l) where
       new : Held
       new = record {
         object = record {
-          number = x .req .A;
+          number = number;
           version = partitionAt l p .last + 1;
-          size =
-              x .req .B;
+          size = size;
           start = s;
         };
         bytes = zeros;
@@ -324,15 +343,13 @@ module _ (M : ℕ) (m : List ℕ) (l : Ledger) (g : Good M m l) where
       room : p * quarter M + s + length zeros ≤ length m
       room = omega (arith, len, quarter-in M p hp, g .size, c .place .inside)
 
-      clear : (h : Held) → List·Memᴰ h (partitionAt l p .objects) → clearOf s (x .req .B) (h .object) ≡ true
+      clear : (h : Held) → List·Memᴰ h (partitionAt l p .objects) → clearOf s size (h .object) ≡ true
       clear h j =
-          every-member (λ (a : Held). clearOf s (x .req .B) (a .object)) (partitionAt l p .objects) h
-          (every-unmap (clearOf s (x .req .B)) Held.object (partitionAt l p .objects)
-          (subst (λ (r : Partition Object). every (clearOf s (x .req .B)) (r .objects) ≡ true) (bare-at l p)
-          (c .place .clear))) j
+          every-member (λ (a : Held). clearOf s size (a .object)) (partitionAt l p .objects) h
+          (every-unmap (clearOf s size) Held.object (partitionAt l p .objects) (c .place .clear)) j
 
       away : (h : Held) → List·Memᴰ h (partitionAt l p .objects)
-          → (leb (h .object .start + h .object .size) s ≡ true) ⊎ (leb (s + x .req .B) (h .object .start) ≡ true)
+          → (leb (h .object .start + h .object .size) s ≡ true) ⊎ (leb (s + size) (h .object .start) ≡ true)
           → part m′ (p * quarter M + h .object .start) (h .object .size) ≡ h .bytes
       away h j (inl a) =
           part-apart m zeros (p * quarter M + s) (p * quarter M + h .object .start) (h .object .size) room
@@ -342,94 +359,94 @@ module _ (M : ℕ) (m : List ℕ) (l : Ledger) (g : Good M m l) where
       away h j (inr a) =
           part-apart m zeros (p * quarter M + s) (p * quarter M + h .object .start) (h .object .size) room
           (inside p h j)
-          (inl (omega (arith, len, leb-true (s + x .req .B) (h .object .start) a)))
+          (inl (omega (arith, len, leb-true (s + size) (h .object .start) a)))
           ∙ g .bytes p h j
 
-      it : part m′ (p * quarter M + s) (x .req .B) ≡ zeros
+      it : part m′ (p * quarter M + s) size ≡ zeros
       it = subst (λ (n : ℕ). part m′ (p * quarter M + s) n ≡ zeros) len (part-new m zeros (p * quarter M + s) room)
 
       here : (h : Held) → List·Memᴰ h (partitionAt l p .objects) ⊎ List·Memᴰ h (new ∷ [])
           → part m′ (p * quarter M + h .object .start) (h .object .size) ≡ h .bytes
       here h (inl j) = away h j (or-cases (leb (h .object .start + h .object .size) s)
-          (leb (s + x .req .B) (h .object .start)) (clear h j))
+          (leb (s + size) (h .object .start)) (clear h j))
       here h (inr j) = subst (λ (h : Held). part m′ (p * quarter M + h .object .start) (h .object .size) ≡ h .bytes)
           (sym (List·Memᴰ·eq-of-singleton j)) it
 
   -- ---- 6. Delete
-  delete-bytes : (x : Fields) → x .cred .partition < 4
-      → Bytes M m (at (x .cred .partition) (gone (x .cred .object)) l)
-  unfolding gone
+  delete-bytes : (x : Fields) → x .cred .partition < 4 → Bytes M m (after Delete x)
+  unfolding ledgerAfter gone
   delete-bytes x hp =
-      bytes-at (x .cred .partition) (gone (x .cred .object)) m hp
+      bytes-at x (ledgerAfter Delete (ledgerScope M l (x .cred)) x) m hp
       (λ h j. g .bytes (x .cred .partition) h (member-keep (λ (a : Held). numberOf a isnt x .cred .object)
       (partitionAt l (x .cred .partition) .objects) h j)) (still (x .cred .partition))
 
+  -- ---- nothing changes there
+  same-bytes : (x : Fields) → x .cred .partition < 4 → (keys : Keys)
+      → Bytes M m (withScope (x .cred) (withKeys keys (ledgerScope M l (x .cred))) l)
+  same-bytes x hp keys =
+      bytes-at x (withKeys keys (ledgerScope M l (x .cred))) m hp (g .bytes (x .cred .partition)) (still (x .cred .partition))
+
   -- ---- all
-  four-after : (o : Operation) (x : Fields) → length (ledgerAfter o M x l .partitions) ≡ 4
-  unfolding ledgerAfter
-  four-after unknown x = g .four
-  four-after read x = g .four
-  four-after write x = length-update (x .cred .partition) (written x) (l .partitions) ∙ g .four
-  four-after look x = g .four
-  four-after raise x = length-update (x .cred .partition) (raisedHere (x .cred .object)) (l .partitions) ∙ g .four
-  four-after create x = length-update (x .cred .partition)
-      (joined (x .req .A) (x .req .B) (startOf (quarter M) (tablesOf l) x)) (l .partitions) ∙ g .four
-  four-after delete x = length-update (x .cred .partition) (gone (x .cred .object)) (l .partitions) ∙ g .four
-  four-after setKey x = g .four
+  bytes-after : (o : Operation) (es : List Entry) (x : Fields) → Grant o (sees M l es (x .cred)) x
+      → Bytes M (perform o (sees M l es (x .cred)) x m .medium) (after o x)
+  unfolding perform ledgerAfter
+  bytes-after (Read a b) es x c = same-bytes x (c .partition) (l .keys)
+  bytes-after (Write a b) es x c = write-bytes es x a b (c .partition) (c .writes a b refl)
+  bytes-after Look es x c = same-bytes x (c .partition) (l .keys)
+  bytes-after Raise es x c = raise-bytes x (c .partition)
+  bytes-after (Create a b) es x c = create-bytes es x a b (c .partition) (c .creates a b refl)
+  bytes-after Delete es x c = delete-bytes x (c .partition)
+  bytes-after (SetKey a) es x c = same-bytes x (c .partition) (keySet a x (l .keys))
 
-  bytes-after : (o : Operation) (x : Fields) → Grant o (quarter M) (tablesOf l) x
-      → Bytes M (mediumAfter o (quarter M) x (tablesOf l) m) (ledgerAfter o M x l)
-  unfolding mediumAfter ledgerAfter
-  bytes-after unknown x c = g .bytes
-  bytes-after read x c = g .bytes
-  bytes-after write x c = write-bytes x (c .partition) (c .writes refl)
-  bytes-after look x c = g .bytes
-  bytes-after raise x c = raise-bytes x (c .partition)
-  bytes-after create x c = create-bytes x (c .partition) (c .creates refl)
-  bytes-after delete x c = delete-bytes x (c .partition)
-  bytes-after setKey x c = g .bytes
-
-  size-after : (o : Operation) (x : Fields) → Grant o (quarter M) (tablesOf l) x
-      → length (mediumAfter o (quarter M) x (tablesOf l) m) ≡ M
-  unfolding mediumAfter extentStart
-  size-after unknown x c = g .size
-  size-after read x c = g .size
-  size-after write x c =
-      let w : CanWrite (tablesOf l) x = c .writes refl in
-      length-splice m (x .payload) (x .cred .partition * quarter M + objectOf (tablesOf l) x .start + x .req .A)
+  size-after : (o : Operation) (es : List Entry) (x : Fields) → Grant o (sees M l es (x .cred)) x
+      → length (perform o (sees M l es (x .cred)) x m .medium) ≡ M
+  unfolding perform extentStart objectOf named
+  size-after (Read a b) es x c = g .size
+  size-after (Write a b) es x c =
+      let w : CanWrite (sees M l es (x .cred)) x a b = c .writes a b refl in
+      let p : Partition Held = partitionAt l (x .cred .partition) in
+      let n : ℕ = x .cred .object in
+      length-splice m (x .payload) (extentStart (sees M l es (x .cred)) (x .cred) + a)
       (omega (
         arith,
         w .len,
         w .fits,
-        ap Object.size (the-object l x (w .there)),
-        ap Object.start
-            (the-object l x (w .there)),
-        inside (x .cred .partition) (the-held l x (w .there) .0)
-            (the-held l x (w .there) .2),
+        ap Object.size (the-object p n (w .there)),
+        ap Object.start (the-object p n (w .there)),
+        inside (x .cred .partition) (the-held p n (w .there) .0) (the-held p n (w .there) .2),
       ))
       ∙ g .size
-  size-after look x c = g .size
-  size-after raise x c = g .size
-  size-after create x c =
-      length-splice m (replicate (x .req .B) 0) (x .cred .partition * quarter M + startOf (quarter M) (tablesOf l) x)
+  size-after Look es x c = g .size
+  size-after Raise es x c = g .size
+  size-after (Create a b) es x c =
+      length-splice m (replicate b 0) (x .cred .partition * quarter M + startOf (sees M l es (x .cred)) b)
       (omega (
         arith,
-        length-replicate {A = ℕ} (x .req .B) 0,
-        quarter-in M (x .cred .partition)
-            (c .partition),
+        length-replicate {A = ℕ} b 0,
+        quarter-in M (x .cred .partition) (c .partition),
         g .size,
-        c .creates refl .place .inside,
+        c .creates a b refl .place .inside,
       ))
       ∙ g .size
-  size-after delete x c = g .size
-  size-after setKey x c = g .size
+  size-after Delete es x c = g .size
+  size-after (SetKey a) es x c = g .size
 
-  pub good-after : (o : Operation) (x : Fields) → Grant o (quarter M) (tablesOf l) x
-      → Good M (mediumAfter o (quarter M) x (tablesOf l) m) (ledgerAfter o M x l)
-  good-after o x c = record {
-    size = size-after o x c;
-    four = four-after o x;
-    sound = subst (SoundTables (quarter M)) (sym (bare-after o M x l))
-        (tables-sound o (quarter M) x (tablesOf l) (g .sound) (c .creates));
-    bytes = bytes-after o x c;
+  sound-after : (o : Operation) (es : List Entry) (x : Fields) → Grant o (sees M l es (x .cred)) x
+      → SoundTables (quarter M) (tablesOf (after o x))
+  sound-after o es x c =
+      let s : Scope Object = sees M l es (x .cred) in
+      let h : SoundScope s = subst (λ (p : Partition Object). soundPartition (quarter M) p ≡ true)
+      (bare-at l (x .cred .partition)) (at-sound (quarter M) (tablesOf l) (x .cred .partition) (g .sound)) in
+      rw bare-back (back-sound (quarter M) x (bareScope (ledgerAfter o (ledgerScope M l (x .cred)) x)) (tablesOf l)
+      (subst (λ (s : Scope Object). soundPartition (quarter M) (s .partition) ≡ true)
+      (bare-after o (ledgerScope M l (x .cred)) es x m) (scope-sound o s x m h (c .creates))) (g .sound))
+
+  pub good-after : (o : Operation) (es : List Entry) (x : Fields) → Grant o (sees M l es (x .cred)) x
+      → Good M (perform o (sees M l es (x .cred)) x m .medium) (after o x)
+  good-after o es x c = record {
+    size = size-after o es x c;
+    four = length-update (x .cred .partition)
+        (λ (old : Partition Held). ledgerAfter o (ledgerScope M l (x .cred)) x .partition) (l .partitions) ∙ g .four;
+    sound = sound-after o es x c;
+    bytes = bytes-after o es x c;
   }

@@ -9,15 +9,17 @@ use borrow.Author.Tests.{eqb-false, eqb-true}
 use Rattle.lemmas.specs.Lists.{every}
 use Rattle.lemmas.specs.Rows.{firstRow, Row}
 use Rattle.lemmas.specs.Tests.{_is_, and-l, and-r, bool-cases, both}
+use Rattle.rules.specs.declared.Object.{Object}
 use Rattle.rules.specs.Drive.{Drive, largestMedium, newHighWater, quarter, refresh, sound}
 use Rattle.rules.specs.Frame.{Fields, fields, operationOf}
 use Rattle.rules.specs.Gate.{Answer, Call, gate, granted}
-use Rattle.rules.specs.Operations.{driveAfter}
+use Rattle.rules.specs.Operations.{perform}
 use Rattle.rules.specs.Rows.{rows}
+use Rattle.rules.specs.Scope.{driveWithScope, Scope, driveScope}
 use Rattle.rules.proofs.Answers.{gate-granted, gate-refused}
-use Rattle.rules.proofs.Clear.{clear22, grant}
+use Rattle.rules.proofs.Clear.{clear22, cleared, grant}
 use Rattle.rules.proofs.Memories.{short, short-entered, short-kept}
-use Rattle.rules.proofs.Sound.{SoundTables, tables-sound}
+use Rattle.rules.proofs.Sound.{at-sound, back-sound, scope-sound, SoundScope, SoundTables}
 
 -- a sound drive's size, partitions and memories
 pub small-of : (d : Drive) → sound d ≡ true → leb (d .size) largestMedium ≡ true
@@ -46,16 +48,22 @@ module _ (d : Drive) (m : List ℕ) (c : Call) (h : sound d ≡ true) where
   abbrev x : Fields
   x = fields (c .frame)
 
+  abbrev fresh : Drive
+  fresh = refresh (c .clock) d
+
   -- a grant, row 1, any other refusal
-  granted-sound : firstRow table ≡ 0 → sound (driveAfter (operationOf x) x (refresh (c .clock) d)) ≡ true
-  unfolding sound driveAfter
+  granted-sound : firstRow table ≡ 0
+      → sound (driveWithScope (x .cred) (granted (driveScope fresh (x .cred)) m x (c .space) .drive) fresh) ≡ true
+  unfolding sound granted
   granted-sound g =
-      let e : Drive = refresh (c .clock) d in
-      let k : sound e ≡ true = refresh-sound (c .clock) d h in
-      both (both (small-of e k)
-      (tables-sound (operationOf x) (quarter (e .size)) x (e .tables) (tables-of e k)
-      (grant d m (c .frame) (c .clock) (c .space) g (tables-of e k) .creates)))
-      (short-entered e x (clear22 d m (c .frame) (c .clock) (c .space) g) (memories-of e k))
+      let k : sound fresh ≡ true = refresh-sound (c .clock) d h in
+      let free = cleared d m (c .frame) (c .clock) (c .space) g in
+      let s : Scope Object = driveScope fresh (x .cred) in
+      let p : SoundScope s = at-sound (s .quarter) (fresh .tables) (x .cred .partition) (tables-of fresh k) in
+      both (both (small-of fresh k)
+      (back-sound (s .quarter) x (perform (operationOf x) s x m .scope) (fresh .tables)
+      (scope-sound (operationOf x) s x m p (grant free p .creates)) (tables-of fresh k)))
+      (short-entered fresh x (clear22 free) (memories-of fresh k))
 
   left-sound : (b : Bool) → sound (cond b d (refresh (c .clock) d)) ≡ true
   left-sound true = h
@@ -68,7 +76,7 @@ module _ (d : Drive) (m : List ℕ) (c : Call) (h : sound d ≡ true) where
       go : (firstRow table is 0 ≡ true) ⊎ (firstRow table is 0 ≡ false) → sound (gate d m c .drive) ≡ true
       go (inl k) =
           let e : firstRow table ≡ 0 = eqb-true (firstRow table) 0 k in
-          subst (λ (a : Answer). sound (a .drive) ≡ true) (sym (gate-granted d m c e)) (granted-sound e)
+          subst (λ (a : Answer Drive). sound (a .drive) ≡ true) (sym (gate-granted d m c e)) (granted-sound e)
       go (inr k) =
-          subst (λ (a : Answer). sound (a .drive) ≡ true)
+          subst (λ (a : Answer Drive). sound (a .drive) ≡ true)
           (sym (gate-refused d m c (eqb-false (firstRow table) 0 k))) (left-sound (firstRow table is 1))

@@ -3,7 +3,7 @@
 use mathlib.Core.Path.{_∙_, _≡_, ap, refl, subst, sym}
 use mathlib.Core.Logic.{_⊎_, inl, inr}
 use mathlib.Core.Bool.{false, false≢true, true}
-use mathlib.Core.List.{[]}
+use mathlib.Core.List.{[], List}
 use Prim.Native.Nat.{_+_, _<_, _≤_, ℕ}
 use native.Mathlib.Decide.{decLt, ℕ-discrete}
 use native.Mathlib.Omega.{arith}
@@ -12,31 +12,19 @@ use borrow.Author.Tests.{eqb-false, eqb-true, ltb-false}
 use Rattle.lemmas.specs.ListLaws.{nth-map, nth-update, nth-update-other, some-keep}
 use Rattle.lemmas.specs.Lists.{keep, some?, update}
 use Rattle.lemmas.specs.Tests.{_is_, _under_, bool-cases, or-l}
+use Rattle.rules.specs.declared.Entry.{Entry}
 use Rattle.rules.specs.declared.Object.{Object}
 use Rattle.rules.specs.Demands.{answer, does, Nonce, nonce, State, step}
-use Rattle.rules.specs.Drive.{Drive, lives, newHighWater, quarter, refresh, sameEntry, Tables}
-use Rattle.rules.specs.Frame.{
-  create,
-  delete,
-  entry,
-  Fields,
-  fields,
-  look,
-  memory,
-  Operation,
-  raise,
-  read,
-  setKey,
-  unknown,
-  write,
-}
-use Rattle.rules.specs.Gate.{Call}
+use Rattle.rules.specs.Drive.{Drive, lives, newHighWater, refresh, sameEntry}
+use Rattle.rules.specs.Frame.{entry, Fields, fields, memory}
+use Rattle.rules.specs.Gate.{Call, granted}
 use Rattle.rules.specs.Ledger.{Ledger}
-use Rattle.rules.specs.Operations.{driveAfter, remember, tablesAfter}
-use Rattle.rules.specs.Rows.{remembered, row11, row12}
+use Rattle.rules.specs.Operations.{perform, remember}
+use Rattle.rules.specs.Rows.{row11, row12}
+use Rattle.rules.specs.Scope.{driveWithScope, Scope, driveScope, withMemory}
 use Rattle.rules.proofs.Clear.{clear11, clear12, in-five}
 use Rattle.rules.proofs.Memories.{remember-has, remember-keeps, same-entry, still-lives}
-use Rattle.rules.proofs.Step.{fresh, fresh-inv, Inv, row-zero, rowOf, step-granted, step-refused}
+use Rattle.rules.proofs.Step.{clear-of, fresh, fresh-inv, Inv, row-zero, rowOf, step-granted, step-refused}
 
 -- the memory holds the nonce, or it is outlived
 abbrev pub Known : Nonce → Drive → Type 0
@@ -59,53 +47,42 @@ known-refreshed n d clock (inl k) = go (decLt (n .entry .time + 5000) mark)
         ∙ some-keep (sameEntry (n .entry)) (lives mark) (getD (d .memories) (n .memory) [])
         (λ e s. still-lives mark (n .entry) e h s) k)
 
--- a grant leaves the mark
-pub mark-after : (o : Operation) (q : ℕ) (x : Fields) (t : Tables Object)
-    → tablesAfter o q x t .highWater ≡ t .highWater
-unfolding tablesAfter
-mark-after unknown q x t = refl
-mark-after read q x t = refl
-mark-after write q x t = refl
-mark-after look q x t = refl
-mark-after raise q x t = refl
-mark-after create q x t = refl
-mark-after delete q x t = refl
-mark-after setKey q x t = refl
-
--- and its own memory grows
-known-granted : (n : Nonce) (o : Operation) (x : Fields) (d : Drive) → memory x < length (d .memories) → Known n d
-    → Known n (driveAfter o x d)
-unfolding driveAfter
-known-granted n o x d h (inr k) = inr (omega (arith, mark-after o (quarter (d .size)) x (d .tables)))
-known-granted n o x d h (inl k) = go (ℕ-discrete (n .memory) (memory x))
+-- a grant's own memory grows
+known-granted : (n : Nonce) (x : Fields) (d : Drive) (a : Scope Object) → memory (x .cred) < length (d .memories) → Known n d
+    → Known n (driveWithScope (x .cred) (withMemory (remember x (driveScope d (x .cred) .memory)) a) d)
+known-granted n x d a h (inr k) = inr k
+known-granted n x d a h (inl k) = go (ℕ-discrete (n .memory) (memory (x .cred)))
   where
-    go : Dec (n .memory ≡ memory x) → Known n (driveAfter o x d)
+    new : List Entry → List Entry
+    new old = remember x (getD (d .memories) (memory (x .cred)) [])
+
+    go : Dec (n .memory ≡ memory (x .cred))
+        → Known n (driveWithScope (x .cred) (withMemory (remember x (driveScope d (x .cred) .memory)) a) d)
     go (yes e) =
-        inl (ap (λ (i : ℕ). some? (sameEntry (n .entry)) (getD (update (memory x) (remember x) (d .memories)) i [])) e
-        ∙ ap (some? (sameEntry (n .entry))) (nth-update (memory x) (remember x) (d .memories) [] h)
-        ∙ remember-keeps (sameEntry (n .entry)) x (getD (d .memories) (memory x) [])
+        inl (ap (λ (i : ℕ). some? (sameEntry (n .entry)) (getD (update (memory (x .cred)) new (d .memories)) i [])) e
+        ∙ ap (some? (sameEntry (n .entry))) (nth-update (memory (x .cred)) new (d .memories) [] h)
+        ∙ remember-keeps (sameEntry (n .entry)) x (getD (d .memories) (memory (x .cred)) [])
         (ap (λ (i : ℕ). some? (sameEntry (n .entry)) (getD (d .memories) i [])) (sym e) ∙ k))
     go (no e) = inl (ap (some? (sameEntry (n .entry)))
-        (nth-update-other (memory x) (n .memory) (remember x) (d .memories) [] e) ∙ k)
+        (nth-update-other (memory (x .cred)) (n .memory) new (d .memories) [] e) ∙ k)
 
 module _ (M : ℕ) (s : State) (l : Ledger) (c : Call) (v : Inv M s l) where
-  in-memory : rowOf s c ≡ 0 → memory (fields (c .frame)) < length (fresh s c .memories)
-  in-memory e = omega (
-    arith,
-    in-five (s .drive) (s .medium) (c .frame) (c .clock)
-        (c .space) e,
-    fresh-inv M s l c v .five,
-  )
+  abbrev x : Fields
+  x = fields (c .frame)
+
+  in-memory : rowOf s c ≡ 0 → memory (fields (c .frame) .cred) < length (fresh s c .memories)
+  in-memory e = omega (arith, in-five (clear-of M s l c v e), fresh-inv M s l c v .five)
 
   -- every call leaves a known nonce known
   pub step-known : (n : Nonce) → Known n (s .drive) → Known n (step s c .drive)
+  unfolding granted
   step-known n k = go (bool-cases (rowOf s c is 0))
     where
       go : (rowOf s c is 0 ≡ true) ⊎ (rowOf s c is 0 ≡ false) → Known n (step s c .drive)
       go (inl b) =
           let e : rowOf s c ≡ 0 = eqb-true (rowOf s c) 0 b in
           subst (λ (t : State). Known n (t .drive)) (sym (step-granted M s l c v e))
-          (known-granted n (does c) (fields (c .frame)) (fresh s c) (in-memory e)
+          (known-granted n x (fresh s c) (perform (does c) (driveScope (fresh s c) (x .cred)) x (s .medium) .scope) (in-memory e)
           (known-refreshed n (s .drive) (c .clock) k))
       go (inr b) =
           subst (λ (t : State). Known n (t .drive)) (sym (step-refused M s l c v (eqb-false (rowOf s c) 0 b)))
@@ -113,30 +90,29 @@ module _ (M : ℕ) (s : State) (l : Ledger) (c : Call) (v : Inv M s l) where
 
   -- a granted one becomes known
   pub granted-known : answer s c .row ≡ 0 → Known (nonce c) (step s c .drive)
-  unfolding nonce driveAfter
+  unfolding nonce granted
   granted-known r =
       let e : rowOf s c ≡ 0 = row-zero M s l c v r in
-      let x : Fields = fields (c .frame) in
       subst (λ (t : State). Known (nonce c) (t .drive)) (sym (step-granted M s l c v e))
-      (inl (ap (some? (sameEntry (entry x))) (nth-update (memory x) (remember x) (fresh s c .memories) []
-      (in-memory e))
-      ∙ remember-has (sameEntry (entry x)) x (getD (fresh s c .memories) (memory x) []) (same-entry (entry x))))
+      (inl (ap (some? (sameEntry (entry (x .cred) (x .req)))) (nth-update (memory (x .cred))
+      (λ (old : List Entry). remember x (driveScope (fresh s c) (x .cred) .memory)) (fresh s c .memories) [] (in-memory e))
+      ∙ remember-has (sameEntry (entry (x .cred) (x .req))) x (getD (fresh s c .memories) (memory (x .cred)) []) (same-entry (entry (x .cred) (x .req)))))
 
   -- and a known one is not granted
   pub known-not-granted : Known (nonce c) (s .drive) → answer s c .row ≡ 0 → ⊥
-  unfolding nonce remembered entry row11 row12
+  unfolding nonce entry row11 row12
   known-not-granted k r = go (known-refreshed (nonce c) (s .drive) (c .clock) k)
     where
       e : rowOf s c ≡ 0
       e = row-zero M s l c v r
 
       go : Known (nonce c) (fresh s c) → ⊥
-      go (inl h) = false≢true (sym (clear12 (s .drive) (s .medium) (c .frame) (c .clock) (c .space) e) ∙ h)
+      go (inl h) = false≢true (sym (clear12 (clear-of M s l c v e)) ∙ h)
       go (inr h) =
           let late : (fields (c .frame) .req .time + 5000 under fresh s c .tables .highWater) ≡ false =
-          search (or-l, clear11 (s .drive) (s .medium) (c .frame) (c .clock) (c .space) e) in
+          search (or-l, clear11 (clear-of M s l c v e)) in
           absurd (outlived (ltb-false (fields (c .frame) .req .time + 5000) (fresh s c .tables .highWater) late) h)
         where
           outlived : fresh s c .tables .highWater ≤ fields (c .frame) .req .time + 5000
-              → entry (fields (c .frame)) .time + 5000 < fresh s c .tables .highWater → ⊥
+              → entry (fields (c .frame) .cred) (fields (c .frame) .req) .time + 5000 < fresh s c .tables .highWater → ⊥
           outlived a b = omega arith

@@ -7,7 +7,7 @@ use mathlib.Core.List.{[], _∷_, List, map}
 use Prim.Native.Nat.{_+_, _<_, _≤_, ℕ}
 use native.Mathlib.Omega.{arith}
 use lib.Dec.{eqb, leb}
-use lib.ListN.{getD, length, length-append}
+use lib.ListN.{length, length-append}
 use borrow.Author.Tests.{eq-eqb, eqb-true, le-leb, leb-true}
 use Rattle.lemmas.specs.ListLaws.{
   every-imp,
@@ -21,30 +21,31 @@ use Rattle.lemmas.specs.ListLaws.{
 use Rattle.lemmas.specs.Lists.{every, keep, some?, update}
 use Rattle.lemmas.specs.Tests.{and-l, and-r, both, tests}
 use Rattle.rules.specs.declared.Entry.{Entry}
+use Rattle.rules.specs.declared.Object.{Object}
 use Rattle.rules.specs.Drive.{Drive, lives, sameEntry}
 use Rattle.rules.specs.Frame.{entry, Fields, memory}
 use Rattle.rules.specs.Operations.{remember}
-use Rattle.rules.specs.Rows.{remembered, row22}
+use Rattle.rules.specs.Rows.{row22}
+use Rattle.rules.specs.Scope.{Scope, driveScope}
 
 remember-length : (x : Fields) (l : List Entry) → length (remember x l) ≡ length l + 1
 unfolding remember
-remember-length x l = length-append l (entry x ∷ [])
+remember-length x l = length-append l (entry (x .cred) (x .req) ∷ [])
 
 pub remember-keeps : (t : Entry → Bool) (x : Fields) (l : List Entry) → some? t l ≡ true
     → some? t (remember x l) ≡ true
 unfolding remember
-remember-keeps t x l h = some-append-l t l (entry x ∷ []) h
+remember-keeps t x l h = some-append-l t l (entry (x .cred) (x .req) ∷ []) h
 
-pub remember-has : (t : Entry → Bool) (x : Fields) (l : List Entry) → t (entry x) ≡ true
+pub remember-has : (t : Entry → Bool) (x : Fields) (l : List Entry) → t (entry (x .cred) (x .req)) ≡ true
     → some? t (remember x l) ≡ true
 unfolding remember
-remember-has t x l h = some-append-r t l (entry x) h
+remember-has t x l h = some-append-r t l (entry (x .cred) (x .req)) h
 
 -- a memory of at most 64 entries that row 22 does not refuse has fewer
-pub room-left : (d : Drive) (x : Fields) → row22 d x ≡ false → leb (length (remembered d x)) 64 ≡ true
-    → length (remembered d x) < 64
+pub room-left : (s : Scope Object) → row22 s ≡ false → leb (length (s .memory)) 64 ≡ true → length (s .memory) < 64
 unfolding row22
-room-left d x h k = omega tests
+room-left s h k = omega tests
 
 -- ---- memories of at most 64 entries
 abbrev pub short : List Entry → Bool
@@ -59,16 +60,15 @@ short-kept mark ms h =
     (omega (arith, length-keep (lives mark) es, leb-true (length es) 64 k))) ms h)
 
 -- and with a grant's entry, which row 22 let in
-pub short-entered : (d : Drive) (x : Fields) → row22 d x ≡ false → every short (d .memories) ≡ true
-    → every short (update (memory x) (remember x) (d .memories)) ≡ true
-unfolding remembered
+pub short-entered : (d : Drive) (x : Fields) → row22 (driveScope d (x .cred)) ≡ false → every short (d .memories) ≡ true
+    → every short (update (memory (x .cred)) (λ (old : List Entry). remember x (driveScope d (x .cred) .memory)) (d .memories)) ≡ true
 short-entered d x r h =
-    let before : List Entry = getD (d .memories) (memory x) [] in
-    every-update short (memory x) (remember x) (d .memories) []
+    let before : List Entry = driveScope d (x .cred) .memory in
+    every-update short (memory (x .cred)) (λ (old : List Entry). remember x before) (d .memories) []
     (le-leb (length (remember x before)) 64 (omega (
       arith,
       remember-length x before,
-      room-left d x r (every-nth short (d .memories) (memory x) [] refl h),
+      room-left (driveScope d (x .cred)) r (every-nth short (d .memories) (memory (x .cred)) [] refl h),
     ))) h
 
 -- ---- entries

@@ -5,85 +5,94 @@ use mathlib.Core.Path.{_∙_, _≡_, ap, refl, subst, sym}
 use mathlib.Core.Logic.{_⊎_, inl, inr}
 use mathlib.Core.Bool.{false, true}
 use mathlib.Core.Option.{Option·map, some}
+use mathlib.Core.List.{List}
 use Prim.Native.Nat.{_<_, _≤_, ℕ}
 use native.Mathlib.Decide.{ℕ-discrete}
 use native.Mathlib.Omega.{arith}
 use lib.ListN.{length}
 use borrow.Author.Tests.{eq-eqb, ne-eqb}
 use Rattle.lemmas.specs.Lists.{find, missing}
+use Rattle.rules.specs.declared.Entry.{Entry}
 use Rattle.rules.specs.declared.Object.{Object}
 use Rattle.rules.specs.Demands.{asks, State}
-use Rattle.rules.specs.Drive.{Partition, partitionAt, Tables}
-use Rattle.rules.specs.Frame.{Fields, operationOf, raise, write}
+use Rattle.rules.specs.Drive.{Partition, partitionAt}
+use Rattle.rules.specs.declared.Operation.{Operation}
+use Rattle.rules.specs.declared.Operation.the-variants.{Raise, Write}
+use Rattle.rules.specs.Frame.{Fields, operationOf}
 use Rattle.rules.specs.Gate.{Call}
-use Rattle.rules.specs.Ledger.{clocked, Fed, feed, Held, Ledger, numberOf, tablesOf}
-use Rattle.rules.specs.Operations.{named, present}
+use Rattle.rules.specs.Ledger.{clocked, Fed, feed, Held, Ledger, numberOf}
+use Rattle.rules.specs.Operations.{named, objectOf, present}
+use Rattle.rules.specs.Scope.{Scope, driveScope}
 use Rattle.rules.specs.Story.{asked, versionIn, versionOf}
-use Rattle.rules.proofs.Bare.{bare-at, missing-is, the-held, the-object}
-use Rattle.rules.proofs.Clear.{code-of, deletes-object, exists, number-free, version-is}
+use Rattle.rules.proofs.Bare.{missing-is, sees, the-held, the-object}
+use Rattle.rules.proofs.Clear.{asks-for, Clear, deletes-object, exists, number-free, version-is}
 use Rattle.rules.proofs.Renewal.{CanRenew, effect, partition-here, partition-there}
-use Rattle.rules.proofs.Step.{fresh, fresh-inv, Inv, rowOf, the-grant}
+use Rattle.rules.proofs.Step.{clear-of, entries, fresh, Inv, rowOf, sees-is, the-grant}
 
 pub record Passed (l : Ledger) (x : Fields) : Type 0 where
   pub partition : x .cred .partition < 4
   -- operations 1 to 6 name what is there, by its version
   pub version : x .req .operation ≤ 6 → versionOf l (x .cred .partition) (x .cred .object) ≡ some (x .cred .version)
-  pub writes : operationOf x ≡ write
+  pub writes : (a b : ℕ) → operationOf x ≡ Write a b
       → missing (find numberOf (x .cred .object) (partitionAt l (x .cred .partition) .objects)) ≡ false
   pub renews : CanRenew (operationOf x) x (partitionAt l (x .cred .partition))
 
 -- the version that a frame names, by the ledger
-version-held : (l : Ledger) (x : Fields) → ((x .cred .object ≡ 0 → ⊥) → missing (named (tablesOf l) x) ≡ false)
-    → x .cred .version ≡ present (tablesOf l) x
+version-held : (M : ℕ) (l : Ledger) (es : List Entry) (x : Fields)
+    → ((x .cred .object ≡ 0 → ⊥) → missing (named (sees M l es (x .cred)) (x .cred)) ≡ false)
+    → x .cred .version ≡ present (sees M l es (x .cred)) (x .cred)
     → versionOf l (x .cred .partition) (x .cred .object) ≡ some (x .cred .version)
-unfolding versionIn present
-version-held l x h e = go (ℕ-discrete (x .cred .object) 0)
+unfolding versionIn present named objectOf
+version-held M l es x h e = go (ℕ-discrete (x .cred .object) 0)
   where
     p : Partition Held
     p = partitionAt l (x .cred .partition)
 
-    go : Dec (x .cred .object ≡ 0) → versionIn p (x .cred .object) ≡ some (x .cred .version)
-    go (yes z) =
-        rw (eq-eqb (x .cred .object) 0 z) (ap some (sym (e ∙ rw (eq-eqb (x .cred .object) 0 z)
-        (ap (λ (r : Partition Object). r .version) (bare-at l (x .cred .partition))))))
+    n : ℕ
+    n = x .cred .object
+
+    go : Dec (n ≡ 0) → versionIn p n ≡ some (x .cred .version)
+    go (yes z) = rw (eq-eqb n 0 z) (ap some (sym (e ∙ rw (eq-eqb n 0 z) refl)))
     go (no z) =
-        rw (ne-eqb (x .cred .object) 0 z)
-        (ap (Option·map (λ (k : Held). k .object .version)) (the-held l x (h z) .1)
-        ∙ ap some (sym (e ∙ rw (ne-eqb (x .cred .object) 0 z) (ap Object.version (the-object l x (h z))))))
+        rw (ne-eqb n 0 z)
+        (ap (Option·map (λ (k : Held). k .object .version)) (the-held p n (h z) .1)
+        ∙ ap some (sym (e ∙ rw (ne-eqb n 0 z) (ap Object.version (the-object p n (h z))))))
 
 pub passed : (M : ℕ) (s : State) (l : Ledger) (c : Call) → Inv M s l → rowOf s c ≡ 0 → Passed l (asks c)
 unfolding clocked named
 passed M s l c v g = record {
   partition = the-grant M s l c v g .partition;
   version = version;
-  writes = λ o. missing-is k (x .cred .partition) (x .cred .object) ∙ the-grant M s l c v g .writes o .there;
+  writes = λ a b o. missing-is p (x .cred .object) ∙ the-grant M s l c v g .writes a b o .there;
   renews = record {
-    raises = λ o. version (omega (arith, code-of (x .req .operation) raise refl o));
-    creates = λ o. (
-      λ z. not-zero (the-grant M s l c v g .creates o .number) z,
-      missing-is k (x .cred .partition) (x .req .A) ∙ now (λ (t : Tables Object).
-          missing (find Object.number (x .req .A) (partitionAt t (x .cred .partition) .objects)) ≡ true)
-          (number-free (s .drive) (s .medium) (c .frame) (c .clock) (c .space) g o),
+    raises = λ o. version (omega (arith, asks-for (x .req) Raise o));
+    creates = λ n size o. (
+      λ z. not-zero (the-grant M s l c v g .creates n size o .number-one) z,
+      missing-is p n ∙ now (λ (t : Scope Object). missing (find Object.number n (t .partition .objects)) ≡ true)
+          (number-free ok n size o),
     );
-    deletes = deletes-object (s .drive) (s .medium) (c .frame) (c .clock) (c .space) g;
+    deletes = deletes-object ok;
   };
 }
   where
     x : Fields
     x = asks c
 
-    k : Ledger
-    k = clocked (c .clock) l
+    p : Partition Held
+    p = partitionAt l (x .cred .partition)
 
-    now : (P : Tables Object → Type 0) → P (fresh s c .tables) → P (tablesOf k)
-    now P h = subst P (fresh-inv M s l c v .tables) h
+    ok : Clear (c .frame) (driveScope (fresh s c) (x .cred)) (c .space)
+    ok = clear-of M s l c v g
+
+    now : (P : Scope Object → Type 0) → P (driveScope (fresh s c) (x .cred))
+        → P (sees M (clocked (c .clock) l) (entries M s l c v) (x .cred))
+    now P h = subst P (sees-is M s l c v) h
 
     version : x .req .operation ≤ 6
         → versionOf l (x .cred .partition) (x .cred .object) ≡ some (x .cred .version)
-    version h = version-held k x (λ z. now (λ (t : Tables Object). missing (named t x) ≡ false)
-        (exists (s .drive) (s .medium) (c .frame) (c .clock) (c .space) g z))
-        (now (λ (t : Tables Object). x .cred .version ≡ present t x)
-        (version-is (s .drive) (s .medium) (c .frame) (c .clock) (c .space) g h))
+    version h = version-held M (clocked (c .clock) l) (entries M s l c v) x
+        (λ z. now (λ (t : Scope Object). missing (named t (x .cred)) ≡ false) (exists ok z))
+        (now (λ (t : Scope Object). x .cred .version ≡ present t (x .cred)) (version-is ok h))
 
     not-zero : {n : ℕ} → 1 ≤ n → n ≡ 0 → ⊥
     not-zero h z = omega arith

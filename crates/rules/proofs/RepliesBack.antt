@@ -4,7 +4,7 @@ use mathlib.Core.Path.{_∙_, _≡_, ap, refl, subst, sym}
 use mathlib.Core.Bool.{_&&_, _||_, Bool, cond, false, not, true}
 use mathlib.Core.Option.{Option, Option·getD}
 use mathlib.Core.List.{_++_, append-assoc, List}
-use Prim.Native.Nat.{_+_, _≤_, ℕ}
+use Prim.Native.Nat.{_*_, _+_, _≤_, ℕ}
 use native.Mathlib.Omega.{arith}
 use lib.ListN.{drop, length, length-append, take}
 use lib.Seq.{drop-at, take-all, take-at}
@@ -19,21 +19,38 @@ use Rattle.lemmas.specs.Tests.{_is_, _isnt_, _over_, and-l, and-r, or-intro-l}
 use Rattle.digest.specs.Hmac.{hmac}
 use Rattle.digest.specs.Laws.{length-hmac}
 use Rattle.rules.specs.declared.Object.{Object}
+use Rattle.rules.specs.declared.Operation.the-variants.{Read}
 use Rattle.rules.specs.declared.Request.{Request}
 use Rattle.rules.specs.Client.{badRecords, buildRows, check, checkRows, frameOf, row30}
 use Rattle.rules.specs.Demands.{RepliesBack}
-use Rattle.rules.specs.Drive.{Drive, Partition, partitionAt, quarter, refresh, sound, soundObject, Tables}
+use Rattle.rules.specs.Drive.{Drive, Partition, quarter, refresh, sound, soundObject}
 use Rattle.rules.specs.Frame.{Fields, fields, operationOf, requestAt}
 use Rattle.rules.specs.Gate.{Answer, Call, gate, granted}
 use Rattle.rules.specs.Ledger.{start}
-use Rattle.rules.specs.Operations.{credentialKey, extentStart, head, headed, named, noObject, objectOf, reply, replyCovered, replyLength, result, resultLength, sealed}
+use Rattle.rules.specs.Operations.{
+  credentialKey,
+  extentStart,
+  head,
+  headed,
+  named,
+  noObject,
+  objectOf,
+  perform,
+  reply,
+  replyCovered,
+  replyLength,
+  resultLength,
+  sealed,
+}
 use Rattle.rules.specs.Rows.{moves, rows}
+use Rattle.rules.specs.Scope.{Scope, driveScope}
 use Rattle.rules.proofs.Answers.{gate-granted, gate-row}
-use Rattle.rules.proofs.Clear.{in-four, in-object, is-known, is-sound, read-moves, size-is, there}
+use Rattle.rules.proofs.Clear.{asks-for, Clear, cleared, in-four, in-object, in-seven, is-sound, read-moves, size-is, there}
 use Rattle.rules.proofs.Holds.{quarter-in}
+use Rattle.rules.proofs.Keeps.{small-of, tables-of}
 use Rattle.rules.proofs.RoundTrip.{built-fields, key-long, parts, records}
 use Rattle.rules.proofs.Shown.{reply-length, result-length}
-use Rattle.rules.proofs.Sound.{at-sound, object-is, partition-is, SoundObject, SoundTables}
+use Rattle.rules.proofs.Sound.{at-sound, object-is, partition-is, SoundObject, SoundScope}
 
 -- ---- the parts of a reply: head, result, and what follows
 module _ (h res tail : List ℕ) (n : ℕ) (lh : length h ≡ 8) (lr : length res ≡ n) where
@@ -56,48 +73,26 @@ module _ (h res tail : List ℕ) (n : ℕ) (lh : length h ≡ 8) (lr : length re
   part-tail lt = rw (drop-at (h ++ res) tail (8 + n) front) (take-all 32 tail (omega arith))
 
 -- ---- a granted read lies inside the medium
-module _ (d : Drive) (m f : List ℕ) (clock : ℕ) (space : List ℕ) (g : firstRow (rows d m f clock space) ≡ 0) where
+module _ {f : List ℕ} {s : Scope Object} {space : List ℕ} (g : Clear f s space) (k : SoundScope s) where
   abbrev x : Fields
   x = fields f
 
-  abbrev t : Tables Object
-  t = refresh clock d .tables
-
-  abbrev q : ℕ
-  q = quarter (d .size)
-
-  small : d .size ≤ 16777216
-  unfolding sound
-  small = leb-true (d .size) 16777216 (search (and-l, and-r, is-sound d m f clock space g))
-
-  sound-tables : SoundTables q t
-  unfolding sound refresh
-  sound-tables = search (and-l, and-r, is-sound d m f clock space g)
-
-  pub sound-named : moves (x .req) ≡ true → SoundObject q (partitionAt t (x .cred .partition) .last) (objectOf t x)
+  pub sound-named : moves (x .req) ≡ true → SoundObject (s .quarter) (s .partition .last) (objectOf s (x .cred))
   unfolding objectOf named
   sound-named h =
-      let p : Partition Object = partitionAt t (x .cred .partition) in
-      let k = found Object.number (x .cred .object) (p .objects) (there d m f clock space g h) in
-      subst (SoundObject q (p .last)) (ap (λ (o : Option Object). Option·getD o noObject) (sym (k .1)))
-      (object-is q (p .last) (k .0) (every-member (soundObject q (p .last)) (p .objects) (k .0)
-      (partition-is q p (at-sound q t (x .cred .partition) sound-tables) .each) (k .2)))
+      let p : Partition Object = s .partition in
+      let a = found Object.number (x .cred .object) (p .objects) (there g h) in
+      subst (SoundObject (s .quarter) (p .last)) (ap (λ (o : Option Object). Option·getD o noObject) (sym (a .1)))
+      (object-is (s .quarter) (p .last) (a .0) (every-member (soundObject (s .quarter) (p .last)) (p .objects) (a .0)
+      (partition-is (s .quarter) p k .each) (a .2)))
 
-  pub read-room : moves (x .req) ≡ true → (extentStart q t x + x .req .A + x .req .B ≤ length m)
-      × (x .req .B ≤ 4194304)
+  pub read-room : (M : ℕ) → s .quarter ≡ quarter M → moves (x .req) ≡ true
+      → extentStart s (x .cred) + x .req .A + x .req .B ≤ M
   unfolding extentStart
-  read-room h =
-      let s = sound-named h in
-      let i : x .req .A + x .req .B ≤ objectOf t x .size = in-object d m f clock space g h in (
-        omega (
-          arith,
-          s .inside,
-          quarter-in (d .size) (x .cred .partition)
-              (in-four d m f clock space g),
-          size-is d m f clock space g,
-        ),
-        omega (arith, s .inside, small),
-      )
+  read-room M e h =
+      let n : ℕ = x .cred .partition in
+      let i : n * s .quarter ≡ n * quarter M = ap (λ (q : ℕ). n * q) e in
+      omega (arith, sound-named h .inside, in-object g h, quarter-in M n (in-four g))
 
 -- ---- the reply, checked
 module _
@@ -113,17 +108,37 @@ module _
     abbrev y : Fields
     y = fields (c .frame)
 
-    abbrev u : Tables Object
-    u = refresh (c .clock) d .tables
-
-    abbrev z : ℕ
-    z = quarter (d .size)
+    abbrev u : Scope Object
+    u = driveScope (refresh (c .clock) d) (y .cred)
 
     abbrev res : List ℕ
-    res = result (operationOf y) z u y m
+    res = perform (operationOf y) u y m .result
 
     g : firstRow (rows d m (c .frame) (c .clock) (c .space)) ≡ 0
     g = sym (gate-row d m c) ∙ a
+
+    ok : Clear (c .frame) u (c .space)
+    ok = cleared d m (c .frame) (c .clock) (c .space) g
+
+    sound-d : sound d ≡ true
+    sound-d = is-sound d m (c .frame) (c .clock) (c .space) g
+
+    sound-u : SoundScope u
+    unfolding refresh
+    sound-u = at-sound (quarter (d .size)) (d .tables) (y .cred .partition) (tables-of d sound-d)
+
+    fits : moves (y .req) ≡ true → extentStart u (y .cred) + y .req .A + y .req .B ≤ length m
+    unfolding refresh
+    fits h = omega (arith, read-room ok sound-u (d .size) refl h, size-is d m (c .frame) (c .clock) (c .space) g)
+
+    few : moves (y .req) ≡ true → y .req .B ≤ 4194304
+    unfolding refresh
+    few h = omega (
+      arith,
+      leb-true (d .size) 16777216 (small-of d sound-d),
+      sound-named ok sound-u h .inside,
+      in-object ok h,
+    )
 
     same-fields : y ≡ parts credential request payload key room b
     same-fields = ap fields e ∙ built-fields credential request payload key room b
@@ -136,21 +151,21 @@ module _
 
     length-res : length res ≡ resultLength (y .req)
     length-res =
-        result-length (operationOf y) z u y m (is-known d m (c .frame) (c .clock) (c .space) g) refl
-        (λ o. length-part m (extentStart z u y + y .req .A) (y .req .B)
-        (read-room d m (c .frame) (c .clock) (c .space) g (read-moves d m (c .frame) (c .clock) (c .space) g o) .0))
+        result-length u y m (in-seven ok .0) (in-seven ok .1)
+        (λ a b o. let k = asks-for (y .req) (Read a b) o in
+        length-part m (extentStart u (y .cred) + a) b (omega (arith, k .1, k .2, fits (read-moves ok o))))
 
     abbrev whole : List ℕ
-    whole = reply (operationOf y) z u y m
+    whole = reply (u .keys) y res
 
     length-whole : length whole ≡ replyLength (y .req)
-    length-whole = reply-length (operationOf y) z u y m length-res
+    length-whole = reply-length (u .keys) y res length-res
 
     -- what stands in the space is the reply
     taken : take (gate d m c .length) (gate d m c .space) ≡ whole
     unfolding granted splice refresh
     taken =
-        ap (λ (n : Answer). take (n .length) (n .space)) (gate-granted d m c g)
+        ap (λ (n : Answer Drive). take (n .length) (n .space)) (gate-granted d m c g)
         ∙ take-at whole (drop (0 + length whole) (c .space)) (replyLength (y .req)) length-whole
 
     -- ---- the three rows of the check
@@ -165,8 +180,7 @@ module _
         go : (i : Bool) → (y .req .operation is 1) ≡ i
             → cond i (y .req .B) (cond (y .req .operation is 3) 8
             (cond (y .req .operation is 4 || y .req .operation is 5) 4 0)) ≤ 4194304
-        go true h = read-room d m (c .frame) (c .clock) (c .space) g
-            (or-intro-l (y .req .operation is 1) (y .req .operation is 2) h) .1
+        go true h = few (or-intro-l (y .req .operation is 1) (y .req .operation is 2) h)
         go false h = rest (y .req .operation is 3) (y .req .operation is 4 || y .req .operation is 5)
 
     abbrev top : List ℕ

@@ -1,6 +1,6 @@
 -- A granted read shows the ledger's bytes.
-use mathlib.Core.Path.{_∙_, _≡_, ap, refl, subst, subst₂, sym}
-use mathlib.Core.Bool.{Bool, cond, false, false≢true, true}
+use mathlib.Core.Path.{_∙_, _≡_, ap, refl, subst, sym}
+use mathlib.Core.Bool.{Bool, cond, false, true}
 use mathlib.Core.Option.{Option, Option·getD, Option·map}
 use mathlib.Core.List.{[], _++_, append-assoc, List}
 use Prim.Native.Nat.{_*_, _+_, _≤_, ℕ}
@@ -11,45 +11,35 @@ use Rattle.lemmas.specs.BigEndian.{bigEndian}
 use Rattle.lemmas.specs.Lists.{find, missing, part, splice}
 use Rattle.lemmas.specs.Parts.{length-part, part-part}
 use Rattle.lemmas.specs.Tests.{_is_}
+use Rattle.rules.specs.declared.Entry.{Entry}
 use Rattle.rules.specs.declared.Object.{Object}
 use Rattle.rules.specs.Demands.{answer, bytesOf, does, State}
 use Rattle.digest.specs.Hmac.{hmac}
 use Rattle.digest.specs.Laws.{length-hmac}
-use Rattle.rules.specs.Drive.{Keys, partitionAt, quarter, Tables}
-use Rattle.rules.specs.Frame.{
-  create,
-  delete,
-  Fields,
-  fields,
-  look,
-  Operation,
-  operationOf,
-  raise,
-  read,
-  setKey,
-  unknown,
-  write,
-}
+use Rattle.rules.specs.Drive.{Keys, Partition, partitionAt, quarter}
+use Rattle.rules.specs.declared.Operation.{Operation}
+use Rattle.rules.specs.declared.Operation.the-variants.{Create, Delete, Look, Raise, Read, SetKey, Write}
+use Rattle.rules.specs.Frame.{Fields, fields, operationOf}
 use Rattle.rules.specs.Gate.{Call, granted}
-use Rattle.rules.specs.Ledger.{clocked, Held, Ledger, numberOf, tablesOf}
+use Rattle.rules.specs.Ledger.{clocked, Held, Ledger, numberOf}
 use Rattle.rules.specs.Operations.{
   credentialKey,
   extentStart,
   head,
   headed,
-  lengthOf,
   named,
   objectOf,
+  perform,
   reply,
   replyLength,
-  result,
   resultLength,
   sealed,
 }
-use Rattle.rules.proofs.Bare.{the-held, the-object}
-use Rattle.rules.proofs.Clear.{code, code-of, in-object, is-known, known, read-moves, there}
+use Rattle.rules.specs.Scope.{Scope, driveScope}
+use Rattle.rules.proofs.Bare.{sees, the-held, the-object}
+use Rattle.rules.proofs.Clear.{Asks, asks-for, in-object, in-seven, read-moves, there}
 use Rattle.rules.proofs.Holds.{Good, held-sound, partition-in-four, quarter-in}
-use Rattle.rules.proofs.Step.{answer-granted, fresh, fresh-inv, Inv, row-zero, rowOf}
+use Rattle.rules.proofs.Step.{answer-granted, clear-of, fresh, fresh-inv, Inv, row-zero, rowOf, sees-is}
 
 -- the result stands in the reply after its eight-byte head
 in-reply : (x : Fields) (r after space : List ℕ) → part (splice space 0 (headed (x .req) r ++ after)) 8 (length r) ≡ r
@@ -57,96 +47,83 @@ unfolding part splice headed head bigEndian
 in-reply x r after space = ap (take (length r)) (append-assoc r after _) ∙ take-at r _ (length r) refl
 
 -- the bytes read are the ledger's
-read-bytes : (M : ℕ) (m : List ℕ) (l : Ledger) → Good M m l → (x : Fields) → missing (named (tablesOf l) x) ≡ false
-    → x .req .A + x .req .B ≤ objectOf (tablesOf l) x .size
-    → (part m (extentStart (quarter M) (tablesOf l) x + x .req .A) (x .req .B)
-    ≡ part (bytesOf l x) (x .req .A) (x .req .B))
-    × (length (part m (extentStart (quarter M) (tablesOf l) x + x .req .A) (x .req .B)) ≡ x .req .B)
-unfolding extentStart bytesOf
-read-bytes M m l g x e fit = (
-  ap (λ (a : Object). part m (p * quarter M + a .start + x .req .A) (x .req .B)) (the-object l x e)
-      ∙ sym (part-part m (p * quarter M + h .object .start) (h .object .size) (x .req .A) (x .req .B) fit′ room)
-      ∙ ap (λ (b : List ℕ). part b (x .req .A) (x .req .B)) (g .bytes p h (the-held l x e .2) ∙ sym held),
-  length-part m (p * quarter M + objectOf (tablesOf l) x .start + x .req .A) (x .req .B)
-      (omega (arith, room, fit′, ap Object.start (the-object l x e))),
+abbrev pub piece : Scope Object → Fields → List ℕ → ℕ → ℕ → List ℕ
+piece s x m a b = part m (extentStart s (x .cred) + a) b
+
+read-bytes : (M : ℕ) (m : List ℕ) (l : Ledger) → Good M m l → (es : List Entry) (x : Fields) (a b : ℕ)
+    → missing (named (sees M l es (x .cred)) (x .cred)) ≡ false
+    → a + b ≤ objectOf (sees M l es (x .cred)) (x .cred) .size
+    → (piece (sees M l es (x .cred)) x m a b ≡ part (bytesOf l x) a b)
+    × (length (piece (sees M l es (x .cred)) x m a b) ≡ b)
+unfolding extentStart bytesOf objectOf named
+read-bytes M m l g es x a b e fit = (
+  ap (λ (o : Object). part m (p * quarter M + o .start + a) b) object
+      ∙ sym (part-part m (p * quarter M + h .object .start) (h .object .size) a b fit′ room)
+      ∙ ap (λ (l : List ℕ). part l a b) (g .bytes p h (the-held here n e .2) ∙ sym held),
+  length-part m (extentStart (sees M l es (x .cred)) (x .cred) + a) b
+      (omega (arith, room, fit′, ap Object.start object)),
 )
   where
     p : ℕ
     p = x .cred .partition
 
-    h : Held
-    h = the-held l x e .0
+    n : ℕ
+    n = x .cred .object
 
-    fit′ : x .req .A + x .req .B ≤ h .object .size
-    fit′ = omega (arith, fit, ap Object.size (the-object l x e))
+    here : Partition Held
+    here = partitionAt l p
+
+    h : Held
+    h = the-held here n e .0
+
+    object : objectOf (sees M l es (x .cred)) (x .cred) ≡ h .object
+    object = the-object here n e
+
+    fit′ : a + b ≤ h .object .size
+    fit′ = omega (arith, fit, ap Object.size object)
 
     room : p * quarter M + h .object .start + h .object .size ≤ length m
     room = omega (
       arith,
-      quarter-in M p (partition-in-four M m l g p h (the-held l x e .2)),
-      held-sound M m l g
-          p h (the-held l x e .2) .inside,
+      quarter-in M p (partition-in-four M m l g p h (the-held here n e .2)),
+      held-sound M m l g p h (the-held here n e .2) .inside,
       g .size,
     )
 
-    held : Option·getD (Option·map Held.bytes (find numberOf (x .cred .object) (partitionAt l p .objects))) []
-        ≡ h .bytes
-    held = ap (λ (o : Option Held). Option·getD (Option·map Held.bytes o) []) (the-held l x e .1)
+    held : Option·getD (Option·map Held.bytes (find numberOf n (here .objects))) [] ≡ h .bytes
+    held = ap (λ (o : Option Held). Option·getD (Option·map Held.bytes o) []) (the-held here n e .1)
 
-both-known : (M : ℕ) (s : State) (l : Ledger) (c : Call) → Inv M s l → answer s c .row ≡ 0 → does c ≡ read
-    → (part (s .medium) (extentStart (quarter (fresh s c .size)) (fresh s c .tables) (fields (c .frame)) + fields
-    (c .frame) .req .A) (fields (c .frame) .req .B)
-    ≡ part (bytesOf l (fields (c .frame))) (fields (c .frame) .req .A) (fields (c .frame) .req .B))
-    × (length (part (s .medium) (extentStart (quarter (fresh s c .size)) (fresh s c .tables)
-    (fields (c .frame)) + fields (c .frame) .req .A) (fields (c .frame) .req .B)) ≡ fields (c .frame) .req .B)
-unfolding clocked bytesOf
-both-known M s l c v r o =
-    subst₂ (λ (n : ℕ) (u : Tables Object). (part m (extentStart (quarter n) u x + x .req .A) (x .req .B)
-    ≡ part (bytesOf l x) (x .req .A) (x .req .B))
-    × (length (part m (extentStart (quarter n) u x + x .req .A) (x .req .B)) ≡ x .req .B))
-    (sym (w .size)) (sym (w .tables))
-    (read-bytes M m (clocked (c .clock) l) (w .good) x
-    (subst (λ (u : Tables Object). missing (named u x) ≡ false) (w .tables)
-    (there (s .drive) m (c .frame) (c .clock) (c .space) e
-    (read-moves (s .drive) m (c .frame) (c .clock) (c .space) e o)))
-    (subst (λ (u : Tables Object). x .req .A + x .req .B ≤ objectOf u x .size) (w .tables)
-    (in-object (s .drive) m (c .frame) (c .clock) (c .space) e
-    (read-moves (s .drive) m (c .frame) (c .clock) (c .space) e o))))
-  where
-    x : Fields
-    x = fields (c .frame)
+module _ (M : ℕ) (s : State) (l : Ledger) (c : Call) (v : Inv M s l) (r : answer s c .row ≡ 0) where
+  abbrev x : Fields
+  x = fields (c .frame)
 
-    m : List ℕ
-    m = s .medium
+  abbrev sight : Scope Object
+  sight = driveScope (fresh s c) (x .cred)
 
-    e : rowOf s c ≡ 0
-    e = row-zero M s l c v r
+  both-known : (a b : ℕ) → does c ≡ Read a b
+      → (piece sight x (s .medium) a b ≡ part (bytesOf l x) a b) × (length (piece sight x (s .medium) a b) ≡ b)
+  unfolding clocked bytesOf
+  both-known a b o =
+      let k = clear-of M s l c v (row-zero M s l c v r) in
+      let n = asks-for (x .req) (Read a b) o in
+      let e = sees-is M s l c v in
+      subst (λ (t : Scope Object). (piece t x (s .medium) a b ≡ part (bytesOf l x) a b)
+      × (length (piece t x (s .medium) a b) ≡ b)) (sym e)
+      (read-bytes M (s .medium) (clocked (c .clock) l) (fresh-inv M s l c v .good) (sight .memory) x a b
+      (subst (λ (t : Scope Object). missing (named t (x .cred)) ≡ false) e (there k (read-moves k o)))
+      (subst (λ (t : Scope Object). a + b ≤ objectOf t (x .cred) .size) e
+      (omega (arith, n .1, n .2, in-object k (read-moves k o)))))
 
-    w : Inv M (record { drive = fresh s c; medium = s .medium }) (clocked (c .clock) l)
-    w = fresh-inv M s l c v
-
-pub read-shown : (M : ℕ) (s : State) (l : Ledger) (c : Call) → Inv M s l → answer s c .row ≡ 0 → does c ≡ read
-    → part (answer s c .space) 8 (fields (c .frame) .req .B)
-    ≡ part (bytesOf l (fields (c .frame))) (fields (c .frame) .req .A) (fields (c .frame) .req .B)
-unfolding granted reply result
-read-shown M s l c v r o =
-    ap (λ (b : List ℕ). part b 8 (x .req .B)) (ap (λ a. a .space) (answer-granted M s l c v (row-zero M s l c v r)))
-    ∙ ap (λ (k : Operation). part (splice (c .space) 0 (reply k q t x (s .medium))) 8 (x .req .B)) o
-    ∙ subst (λ (n : ℕ). part (splice (c .space) 0 (headed (x .req) res ++ sealed (t .keys) x res)) 8 n ≡ res)
-    (both-known M s l c v r o .1) (in-reply x res (sealed (t .keys) x res) (c .space))
-    ∙ both-known M s l c v r o .0
-  where
-    x : Fields
-    x = fields (c .frame)
-
-    t : Tables Object
-    t = fresh s c .tables
-
-    q : ℕ
-    q = quarter (fresh s c .size)
-
-    res : List ℕ
-    res = part (s .medium) (extentStart q t x + x .req .A) (x .req .B)
+  pub read-shown : (a b : ℕ) → does c ≡ Read a b → part (answer s c .space) 8 b ≡ part (bytesOf l x) a b
+  unfolding granted reply perform
+  read-shown a b o =
+      let res : List ℕ = piece sight x (s .medium) a b in
+      ap (λ (l : List ℕ). part l 8 b) (ap (λ a. a .space) (answer-granted M s l c v (row-zero M s l c v r)))
+      ∙ ap (λ (k : Operation). part (splice (c .space) 0 (reply (sight .keys) x (perform k sight x (s .medium) .result)))
+      8 b) o
+      ∙ subst (λ (n : ℕ). part (splice (c .space) 0 (headed (x .req) res ++ sealed (sight .keys) x res)) 8 n ≡ res)
+      (both-known a b o .1) (in-reply x res (sealed (sight .keys) x res) (c .space))
+      ∙ both-known a b o .0
 
 -- ---- the length that a grant returns is the reply's
 length-sealed : (k : Keys) (x : Fields) (r : List ℕ) → length (sealed k x r) ≡ cond (x .req .level is 2) 32 0
@@ -158,42 +135,40 @@ length-sealed k x r = go (x .req .level is 2)
     go true = length-hmac (credentialKey k x) (x .credential ++ (x .request ++ headed (x .req) r))
     go false = refl
 
-pub result-length : (o : Operation) (q : ℕ) (t : Tables Object) (x : Fields) (m : List ℕ) → known o ≡ true
-    → operationOf x ≡ o
-    → (o ≡ read → length (part m (extentStart q t x + x .req .A) (x .req .B)) ≡ x .req .B)
-    → length (result o q t x m) ≡ resultLength (x .req)
-unfolding result bigEndian
-result-length o q t x m k e h = go o k h ∙ sym (ap (λ (n : ℕ). lengthOf n (x .req .B))
-    (code-of (x .req .operation) o k e))
+pub result-length : (s : Scope Object) (x : Fields) (m : List ℕ) → 1 ≤ x .req .operation → x .req .operation ≤ 7
+    → ((a b : ℕ) → operationOf x ≡ Read a b → length (piece s x m a b) ≡ b)
+    → length (perform (operationOf x) s x m .result) ≡ resultLength (x .req)
+unfolding perform bigEndian
+result-length s x m low high h = go (operationOf x) (asks-for (x .req) (operationOf x) refl) h
   where
-    go : (o : Operation) → known o ≡ true → (o ≡ read
-        → length (part m (extentStart q t x + x .req .A) (x .req .B)) ≡ x .req .B)
-        → length (result o q t x m) ≡ lengthOf (code o) (x .req .B)
-    go unknown k h = absurd (false≢true k)
-    go read k h = h refl
-    go write k h = refl
-    go look k h = refl
-    go raise k h = refl
-    go create k h = refl
-    go delete k h = refl
-    go setKey k h = refl
+    go : (o : Operation) → Asks (x .req) o → ((a b : ℕ) → o ≡ Read a b → length (piece s x m a b) ≡ b)
+        → length (perform o s x m .result) ≡ resultLength (x .req)
+    go (Read a b) k h =
+        let e : resultLength (x .req) ≡ b = rw (k .0) (k .2) in
+        h a b refl ∙ sym e
+    go (Write a b) k h = rw (k .0) refl
+    go Look k h = rw (k low high) refl
+    go Raise k h = rw k refl
+    go (Create a b) k h = rw (k .0) refl
+    go Delete k h = rw k refl
+    go (SetKey a) k h = rw (k .0) refl
 
-pub reply-length : (o : Operation) (q : ℕ) (t : Tables Object) (x : Fields) (m : List ℕ)
-    → length (result o q t x m) ≡ resultLength (x .req) → length (reply o q t x m) ≡ replyLength (x .req)
+pub reply-length : (k : Keys) (x : Fields) (r : List ℕ)
+    → length r ≡ resultLength (x .req) → length (reply k x r) ≡ replyLength (x .req)
 unfolding reply headed head replyLength bigEndian
-reply-length o q t x m e =
-    let r : List ℕ = result o q t x m in
-    omega (arith, length-append (headed (x .req) r) (sealed (t .keys) x r), length-sealed (t .keys) x r, e)
+reply-length k x r e =
+    omega (arith, length-append (headed (x .req) r) (sealed k x r), length-sealed k x r, e)
 
 pub answer-length : (M : ℕ) (s : State) (l : Ledger) (c : Call) → Inv M s l → answer s c .row ≡ 0
-    → answer s c .length ≡ length (reply (does c) (quarter (fresh s c .size)) (fresh s c .tables) (fields (c .frame))
-    (s .medium))
+    → answer s c .length ≡ length (reply (fresh s c .tables .keys) (fields (c .frame))
+    (perform (does c) (driveScope (fresh s c) (fields (c .frame) .cred)) (fields (c .frame)) (s .medium) .result))
 unfolding granted
 answer-length M s l c v r =
     ap (λ a. a .length) (answer-granted M s l c v e)
-    ∙ sym (reply-length (does c) (quarter (fresh s c .size)) (fresh s c .tables) (fields (c .frame)) (s .medium)
-    (result-length (does c) (quarter (fresh s c .size)) (fresh s c .tables) (fields (c .frame)) (s .medium)
-    (is-known (s .drive) (s .medium) (c .frame) (c .clock) (c .space) e) refl (λ o. both-known M s l c v r o .1)))
+    ∙ sym (reply-length (fresh s c .tables .keys) (fields (c .frame)) _
+    (result-length (driveScope (fresh s c) (fields (c .frame) .cred)) (fields (c .frame)) (s .medium)
+    (in-seven (clear-of M s l c v e) .0) (in-seven (clear-of M s l c v e) .1)
+    (λ a b o. both-known M s l c v r a b o .1)))
   where
     e : rowOf s c ≡ 0
     e = row-zero M s l c v r

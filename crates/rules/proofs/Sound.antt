@@ -33,8 +33,11 @@ use Rattle.rules.specs.Drive.{
   Tables,
   unused,
 }
-use Rattle.rules.specs.Frame.{create, delete, Fields, look, Operation, raise, read, setKey, unknown, write}
-use Rattle.rules.specs.Operations.{created, deleted, raised, startOf, tablesAfter, withVersion}
+use Rattle.rules.specs.declared.Operation.{Operation}
+use Rattle.rules.specs.declared.Operation.the-variants.{Create, Delete, Look, Raise, Read, SetKey, Write}
+use Rattle.rules.specs.Frame.{Fields}
+use Rattle.rules.specs.Operations.{created, deleted, perform, raised, startOf, withVersion}
+use Rattle.rules.specs.Scope.{withScope, Scope}
 use Rattle.rules.proofs.Placing.{clearOf, Placed}
 
 pub record SoundObject (q last : ℕ) (a : Object) : Type 0 where
@@ -166,36 +169,40 @@ deleted-sound q n p h = partition-sound q (deleted n p) (record {
     other a = a .number isnt n
 
 -- what a create that no row refuses has
-pub record CanCreate (q : ℕ) (t : Tables Object) (x : Fields) : Type 0 where
-  pub number : 1 ≤ x .req .A
-  pub size : 1 ≤ x .req .B
-  pub free : every (λ (a : Object). a .number isnt x .req .A) (partitionAt t (x .cred .partition) .objects) ≡ true
-  pub room : length (partitionAt t (x .cred .partition) .objects) < 16
-  pub place : Placed q (partitionAt t (x .cred .partition) .objects) (x .req .B) (startOf q t x)
+pub record CanCreate (s : Scope Object) (number size : ℕ) : Type 0 where
+  pub number-one : 1 ≤ number
+  pub size-one : 1 ≤ size
+  pub free : every (λ (a : Object). a .number isnt number) (s .partition .objects) ≡ true
+  pub room : length (s .partition .objects) < 16
+  pub place : Placed (s .quarter) (s .partition .objects) size (startOf s size)
 
+abbrev pub SoundScope : Scope Object → Type 0
+SoundScope s = soundPartition (s .quarter) (s .partition) ≡ true
+
+pub scope-sound : (o : Operation) (s : Scope Object) (x : Fields) (m : List ℕ) → SoundScope s
+    → ((number size : ℕ) → o ≡ Create number size → CanCreate s number size)
+    → soundPartition (s .quarter) (perform o s x m .scope .partition) ≡ true
+unfolding perform
+scope-sound (Read a b) s x m h c = h
+scope-sound (Write a b) s x m h c = h
+scope-sound Look s x m h c = h
+scope-sound Raise s x m h c = raised-sound (s .quarter) (x .cred .object) (s .partition) h
+scope-sound (Create a b) s x m h c =
+    let k = c a b refl in
+    created-sound (s .quarter) a b (startOf s b) (s .partition) h
+    (k .number-one) (k .size-one) (k .free) (k .room) (k .place)
+scope-sound Delete s x m h c = deleted-sound (s .quarter) (x .cred .object) (s .partition) h
+scope-sound (SetKey a) s x m h c = h
+
+-- ---- all partitions
 abbrev pub SoundTables : ℕ → Tables Object → Type 0
 SoundTables q t = every (soundPartition q) (t .partitions) ≡ true
 
 pub at-sound : (q : ℕ) (t : Tables Object) (p : ℕ) → SoundTables q t → soundPartition q (partitionAt t p) ≡ true
 at-sound q t p h = every-nth (soundPartition q) (t .partitions) p (unused 0) (unused-sound q 0) h
 
-pub tables-sound : (o : Operation) (q : ℕ) (x : Fields) (t : Tables Object) → SoundTables q t
-    → (o ≡ create → CanCreate q t x) → SoundTables q (tablesAfter o q x t)
-unfolding tablesAfter
-tables-sound unknown q x t h c = h
-tables-sound read q x t h c = h
-tables-sound write q x t h c = h
-tables-sound look q x t h c = h
-tables-sound raise q x t h c =
-    every-update (soundPartition q) (x .cred .partition) (raised (x .cred .object)) (t .partitions) (unused 0)
-    (raised-sound q (x .cred .object) (partitionAt t (x .cred .partition)) (at-sound q t (x .cred .partition) h)) h
-tables-sound create q x t h c =
-    every-update (soundPartition q) (x .cred .partition) (created (x .req .A) (x .req .B) (startOf q t x))
-    (t .partitions) (unused 0)
-    (created-sound q (x .req .A) (x .req .B) (startOf q t x) (partitionAt t (x .cred .partition))
-    (at-sound q t (x .cred .partition) h)
-    (c refl .number) (c refl .size) (c refl .free) (c refl .room) (c refl .place)) h
-tables-sound delete q x t h c =
-    every-update (soundPartition q) (x .cred .partition) (deleted (x .cred .object)) (t .partitions) (unused 0)
-    (deleted-sound q (x .cred .object) (partitionAt t (x .cred .partition)) (at-sound q t (x .cred .partition) h)) h
-tables-sound setKey q x t h c = h
+pub back-sound : (q : ℕ) (x : Fields) (s : Scope Object) (t : Tables Object) → soundPartition q (s .partition) ≡ true
+    → SoundTables q t → SoundTables q (withScope (x .cred) s t)
+back-sound q x s t k h =
+    every-update (soundPartition q) (x .cred .partition) (λ (old : Partition Object). s .partition) (t .partitions)
+    (unused 0) k h

@@ -1,7 +1,8 @@
 -- One call: the gate's two answers, and what holds of drive, medium and ledger before and after.
-use mathlib.Core.Path.{_∙_, _≡_, ap, refl, subst₂, sym}
+use mathlib.Core.Path.{_∙_, _≡_, ap, refl, subst, subst₂, sym}
 use mathlib.Core.Logic.{_⊎_, inl, inr}
 use mathlib.Core.Bool.{false, true}
+use mathlib.Core.List.{List}
 use Prim.Native.Nat.{_≤_, ℕ}
 use native.Mathlib.Omega.{arith}
 use lib.ListN.{length, length-map}
@@ -10,6 +11,7 @@ use Rattle.lemmas.specs.ListLaws.{length-update}
 use Rattle.lemmas.specs.Lists.{every, keep}
 use Rattle.lemmas.specs.Rows.{firstRow}
 use Rattle.lemmas.specs.Tests.{_is_, bool-cases, both}
+use Rattle.rules.specs.declared.Entry.{Entry}
 use Rattle.rules.specs.declared.Object.{Object}
 use Rattle.rules.specs.Demands.{answer, does, State, step}
 use Rattle.rules.specs.Drive.{
@@ -23,17 +25,19 @@ use Rattle.rules.specs.Drive.{
   Tables,
   withHighWater,
 }
-use Rattle.rules.specs.Frame.{Fields, fields, memory, Operation}
-use Rattle.rules.specs.Gate.{Answer, Call, granted, refused}
-use Rattle.rules.specs.Ledger.{clocked, Fed, feed, Ledger, ledgerAfter, tablesOf}
-use Rattle.rules.specs.Operations.{driveAfter, mediumAfter, remember, tablesAfter}
+use Rattle.rules.specs.Frame.{Fields, fields, memory}
+use Rattle.rules.specs.Gate.{Answer, Call, granted, refused, wholeAnswer}
+use Rattle.rules.specs.Ledger.{clocked, Fed, feed, Ledger, ledgerAfter, ledgerScope, tablesOf}
+use Rattle.rules.specs.Operations.{perform, remember}
 use Rattle.rules.specs.Rows.{row1, rows}
+use Rattle.rules.specs.Scope.{withScope, driveWithScope, Scope, driveScope, tablesScope, withPartition}
 use Rattle.rules.proofs.Answers.{gate-granted, gate-refused, gate-row, ready-left}
-use Rattle.rules.proofs.Bare.{bare-after}
-use Rattle.rules.proofs.Clear.{clear22, grant}
+use Rattle.rules.proofs.Bare.{bare-after, bare-at, bare-back, sees}
+use Rattle.rules.proofs.Clear.{Clear, clear22, cleared, grant}
 use Rattle.rules.proofs.Holds.{Good, good-after, Grant}
+use Rattle.rules.proofs.Keeps.{tables-of}
 use Rattle.rules.proofs.Memories.{short, short-entered, short-kept}
-use Rattle.rules.proofs.Sound.{SoundTables}
+use Rattle.rules.proofs.Sound.{at-sound}
 
 -- ---- what holds before and after every call
 pub record Inv (M : ℕ) (s : State) (l : Ledger) : Type 0 where
@@ -78,13 +82,23 @@ refreshed M s l c v = record {
   short = short-kept (newHighWater (s .drive .tables .highWater) (c .clock)) (s .drive .memories) (v .short);
 }
 
+-- what a frame sees of the drive is what it sees of the ledger, beside the memory
+scope-is : (M : ℕ) (s : State) (l : Ledger) → Inv M s l → (x : Fields)
+    → driveScope (s .drive) (x .cred) ≡ sees M l (driveScope (s .drive) (x .cred) .memory) (x .cred)
+unfolding tablesOf
+scope-is M s l v x =
+    let es : List Entry = driveScope (s .drive) (x .cred) .memory in
+    (λ i. tablesScope (quarter (v .size i)) (v .tables i) es (x .cred))
+    ∙ (λ i. withPartition (bare-at l (x .cred .partition) i) (sees M l es (x .cred)))
+
 -- ---- one call
 module _ (M : ℕ) (s : State) (l : Ledger) (c : Call) (v : Inv M s l) where
   ready : row1 (s .drive) (s .medium) ≡ false
   unfolding row1
   ready = rw (inv-sound M s l v, eq-eqb (length (s .medium)) (s .drive .size) (v .good .size ∙ sym (v .size))) refl
 
-  pub answer-granted : rowOf s c ≡ 0 → answer s c ≡ granted (fresh s c) (s .medium) (fields (c .frame)) (c .space)
+  pub answer-granted : rowOf s c ≡ 0 → answer s c ≡ wholeAnswer (fields (c .frame) .cred) (fresh s c)
+      (granted (driveScope (fresh s c) (fields (c .frame) .cred)) (s .medium) (fields (c .frame)) (c .space))
   unfolding answer
   answer-granted e = gate-granted (s .drive) (s .medium) c e
 
@@ -102,62 +116,64 @@ module _ (M : ℕ) (s : State) (l : Ledger) (c : Call) (v : Inv M s l) where
   fresh-inv = refreshed M s l c v
 
   -- ---- a grant
-  pub the-grant : rowOf s c ≡ 0 → Grant (does c) (quarter M) (tablesOf (clocked (c .clock) l)) (fields (c .frame))
+  abbrev x : Fields
+  x = fields (c .frame)
+
+  abbrev now : Ledger
+  now = clocked (c .clock) l
+
+  -- the frame sees the same of drive and ledger, but for the memory
+  abbrev pub entries : List Entry
+  entries = driveScope (fresh s c) (x .cred) .memory
+
+  pub sees-is : driveScope (fresh s c) (x .cred) ≡ sees M now entries (x .cred)
+  sees-is = scope-is M (record { drive = fresh s c; medium = s .medium }) now fresh-inv x
+
+  pub clear-of : rowOf s c ≡ 0 → Clear (c .frame) (driveScope (fresh s c) (x .cred)) (c .space)
+  clear-of g = cleared (s .drive) (s .medium) (c .frame) (c .clock) (c .space) g
+
+  pub the-grant : rowOf s c ≡ 0 → Grant (does c) (sees M now entries (x .cred)) x
   the-grant g =
-      let w = fresh-inv in
-      subst₂ (λ (n : ℕ) (t : Tables Object). Grant (does c) (quarter n) t (fields (c .frame))) (w .size) (w .tables)
-      (grant (s .drive) (s .medium) (c .frame) (c .clock) (c .space) g
-      (subst₂ (λ (n : ℕ) (t : Tables Object). SoundTables (quarter n) t) (sym (w .size)) (sym (w .tables))
-      (w .good .sound)))
+      let k : sound (fresh s c) ≡ true = inv-sound M (record { drive = fresh s c; medium = s .medium }) now fresh-inv in
+      subst (λ (t : Scope Object). Grant (does c) t x) sees-is
+      (grant (clear-of g) (at-sound (quarter (fresh s c .size)) (fresh s c .tables) (x .cred .partition)
+      (tables-of (fresh s c) k)))
 
   -- the state and the ledger that it leaves
   abbrev granted-state : State
-  granted-state = record {
-    drive = driveAfter (does c) (fields (c .frame)) (fresh s c);
-    medium = mediumAfter (does c) (quarter (fresh s c .size)) (fields (c .frame)) (fresh s c .tables) (s .medium);
-  }
+  granted-state =
+      let a = granted (driveScope (fresh s c) (x .cred)) (s .medium) x (c .space) in
+      record { drive = driveWithScope (x .cred) (a .drive) (fresh s c); medium = a .medium }
 
   abbrev granted-ledger : Ledger
-  granted-ledger = ledgerAfter (does c) M (fields (c .frame)) (clocked (c .clock) l)
+  granted-ledger = withScope (x .cred) (ledgerAfter (does c) (ledgerScope M now (x .cred)) x) now
 
   granted-inv : rowOf s c ≡ 0 → Inv M granted-state granted-ledger
-  unfolding driveAfter
+  unfolding granted
   granted-inv g = record {
     small = w .small;
     size = w .size;
     tables =
-        ap (λ (n : ℕ). tablesAfter o (quarter n) f (d .tables)) (w .size)
-        ∙ ap (tablesAfter o (quarter M) f) (w .tables)
-        ∙ sym (bare-after o M f k);
-    good = subst₂ (λ (n : ℕ) (t : Tables Object). Good M (mediumAfter o (quarter n) f t (s .medium))
-        (ledgerAfter o M f k)) (sym (w .size)) (sym (w .tables))
-        (good-after M (s .medium) k (w .good) o f (the-grant g));
-    five = length-update (memory f) (remember f) (d .memories) ∙ w .five;
-    short = short-entered d f (clear22 (s .drive) (s .medium) (c .frame) (c .clock) (c .space) g) (w .short);
+        (λ i. withScope (x .cred) (perform (does c) (sees-is i) x (s .medium) .scope) (w .tables i))
+        ∙ ap (λ (t : Scope Object). withScope (x .cred) t (tablesOf now))
+        (bare-after (does c) (ledgerScope M now (x .cred)) entries x (s .medium))
+        ∙ sym (bare-back x (ledgerAfter (does c) (ledgerScope M now (x .cred)) x) now);
+    good = subst (λ (t : Scope Object). Good M (perform (does c) t x (s .medium) .medium) granted-ledger) (sym sees-is)
+        (good-after M (s .medium) now (w .good) (does c) entries x (the-grant g));
+    five = length-update (memory (x .cred)) (λ (old : List Entry). remember x entries) (fresh s c .memories) ∙ w .five;
+    short = short-entered (fresh s c) x (clear22 (clear-of g)) (w .short);
   }
     where
-      f : Fields
-      f = fields (c .frame)
-
-      o : Operation
-      o = does c
-
-      d : Drive
-      d = fresh s c
-
-      k : Ledger
-      k = clocked (c .clock) l
-
-      w : Inv M (record { drive = fresh s c; medium = s .medium }) (clocked (c .clock) l)
+      w : Inv M (record { drive = fresh s c; medium = s .medium }) now
       w = fresh-inv
 
   pub step-granted : rowOf s c ≡ 0 → step s c ≡ granted-state
   unfolding step granted
-  step-granted e = ap (λ (a : Answer). record { drive = a .drive; medium = a .medium }) (answer-granted e)
+  step-granted e = ap (λ (a : Answer Drive). record { drive = a .drive; medium = a .medium }) (answer-granted e)
 
   pub step-refused : (rowOf s c ≡ 0 → ⊥) → step s c ≡ record { drive = fresh s c; medium = s .medium }
   unfolding step
-  step-refused e = ap (λ (a : Answer). record { drive = a .drive; medium = a .medium }) (answer-refused e)
+  step-refused e = ap (λ (a : Answer Drive). record { drive = a .drive; medium = a .medium }) (answer-refused e)
 
   feed-granted : rowOf s c ≡ 0 → feed M l (fedOf s c) ≡ granted-ledger
   unfolding feed granted

@@ -8,7 +8,8 @@ use Prim.Native.Nat.{_+_, _≤_, ℕ}
 use native.Mathlib.Omega.{arith}
 use Rattle.rules.specs.Demands.{bytesOf}
 use Rattle.rules.specs.Drive.{partitionAt}
-use Rattle.rules.specs.Frame.{create, delete, Fields, operationOf, raise}
+use Rattle.rules.specs.declared.Operation.the-variants.{Create, Delete, Raise}
+use Rattle.rules.specs.Frame.{Fields, operationOf}
 use Rattle.rules.specs.Ledger.{Fed, feed, Ledger, ledger}
 use Rattle.rules.specs.Story.{
   asked,
@@ -22,7 +23,7 @@ use Rattle.rules.specs.Story.{
   versionOf,
   VersionsOnce,
 }
-use Rattle.rules.proofs.Clear.{code-of}
+use Rattle.rules.proofs.Clear.{asks-for}
 use Rattle.rules.proofs.Versions.{
   all-kept,
   Beyond,
@@ -113,9 +114,9 @@ renews-none p n v c u r = go (r .object)
     x = asked c
 
     go : Renewing (operationOf x) x n → ⊥
-    go (inl (inl k)) = omega (arith, u .operation, code-of (x .req .operation) raise refl (k .0))
-    go (inl (inr k)) = omega (arith, u .operation, code-of (x .req .operation) create refl (k .0))
-    go (inr k) = omega (arith, u .operation, code-of (x .req .operation) delete refl (k .0))
+    go (inl (inl k)) = omega (arith, u .operation, asks-for (x .req) Raise (k .0))
+    go (inl (inr k)) = omega (arith, u .operation, asks-for (x .req) (Create n (k .0)) (k .1) .0)
+    go (inr k) = omega (arith, u .operation, asks-for (x .req) Delete (k .0))
 
 module _ (M : ℕ) (l : Ledger) (calls : List Fed) (k : Kept M l calls) where
   rest : (before later : List Fed) → calls ≡ before ++ later → Kept M (ledger M l before) later

@@ -13,11 +13,13 @@ use Rattle.lemmas.specs.Lists.{find, splice}
 use Rattle.lemmas.specs.Tests.{_is_, and-l, and-r, bool-cases, both}
 use Rattle.rules.specs.Demands.{answer, fed, State, step}
 use Rattle.rules.specs.Drive.{format, Partition, partitionAt, unused}
-use Rattle.rules.specs.Frame.{Fields, operation, Operation, operationOf, write}
+use Rattle.rules.specs.declared.Operation.{Operation}
+use Rattle.rules.specs.declared.Operation.the-variants.{Write}
+use Rattle.rules.specs.Frame.{Fields, operation, operationOf}
 use Rattle.rules.specs.Gate.{Call}
-use Rattle.rules.specs.Ledger.{clocked, Fed, feed, Held, Ledger, ledger, start, written}
+use Rattle.rules.specs.Ledger.{clocked, Fed, feed, Held, Ledger, ledger, ledgerAfter, start, written}
 use Rattle.rules.specs.Story.{asked, Gives, lastOf, OfEveryList, Renewing, Renews, versionIn, versionOf, writes}
-use Rattle.rules.proofs.Clear.{code-of}
+use Rattle.rules.proofs.Clear.{asks-for}
 use Rattle.rules.proofs.Demand.{format-inv}
 use Rattle.rules.proofs.Passed.{Here, here-or-still, Passed, passed, Still}
 use Rattle.rules.proofs.Renewal.{
@@ -149,36 +151,38 @@ module _ (M : ℕ) (l : Ledger) (c : Fed) (s : Sane l) (ok : c .row ≡ 0 → Pa
 
   -- a granted write to object n of partition p, taken apart
   abbrev Writes : ℕ → ℕ → Type 0
-  Writes p n = (c .row ≡ 0) × (operationOf x ≡ write) × (x .cred .partition ≡ p) × (x .cred .object ≡ n)
+  Writes p n = (c .row ≡ 0) × (operationOf x ≡ Write (x .req .A) (x .req .B)) × (x .cred .partition ≡ p)
+      × (x .cred .object ≡ n)
 
   writes-is : (p n : ℕ) → writes p n c ≡ true → Writes p n
   unfolding operation
   writes-is p n e = (
     eqb-true (c .row) 0 (search (and-l, and-r)),
-    ap operation (eqb-true (x .req .operation) 2 (search (and-l, and-r))),
+    rw (eqb-true (x .req .operation) 2 (search (and-l, and-r))) refl,
     eqb-true (x .cred .partition) p (search (and-l, and-r)),
     eqb-true (x .cred .object) n (search (and-l, and-r)),
   )
 
-  is-writes : (p n : ℕ) → Writes p n → writes p n c ≡ true
-  is-writes p n w =
-      both (both (both (eq-eqb (c .row) 0 (w .0))
-      (eq-eqb (x .req .operation) 2 (code-of (x .req .operation) write refl (w .1))))
-      (eq-eqb (x .cred .partition) p (w .2))) (eq-eqb (x .cred .object) n (w .3))
+  is-writes : (p n a b : ℕ) → c .row ≡ 0 → operationOf x ≡ Write a b → x .cred .partition ≡ p → x .cred .object ≡ n
+      → writes p n c ≡ true
+  is-writes p n a b r o i j =
+      both (both (both (eq-eqb (c .row) 0 r) (eq-eqb (x .req .operation) 2 (asks-for (x .req) (Write a b) o .0)))
+      (eq-eqb (x .cred .partition) p i)) (eq-eqb (x .cred .object) n j)
 
   -- an object that is not renewed changes by the call's write, if it is one to it
   pub bytes-step : (p n : ℕ) → (Renews p n c → ⊥)
       → bytesAt next p n ≡ cond (writes p n c) (splice (bytesAt l p n) (x .req .A) (x .payload)) (bytesAt l p n)
-  unfolding effect
+  unfolding ledgerAfter
   bytes-step p n r = go (at p) (bool-cases (writes p n c))
     where
       wrote : Here M l c p → Writes p n → bytesAt next p n ≡ splice (bytesAt l p n) (x .req .A) (x .payload)
       wrote h w =
           ap (λ (q : Partition Held). bytesIn q n) (h .effect)
           ∙ ap (λ (o : Operation). bytesIn (effect o M x now (partitionAt l p)) n) (w .1)
-          ∙ subst₂ (λ (q k : ℕ). bytesIn (written x (partitionAt l q)) k
+          ∙ subst₂ (λ (q k : ℕ). bytesIn (written (x .cred .object) (x .req .A) (x .payload) (partitionAt l q)) k
           ≡ splice (bytesAt l q k) (x .req .A) (x .payload)) (w .2) (w .3)
-          (bytes-written x (partitionAt l (x .cred .partition)) (ok (w .0) .writes (w .1)))
+          (bytes-written (x .cred .object) (x .req .A) (x .payload) (partitionAt l (x .cred .partition))
+          (ok (w .0) .writes (x .req .A) (x .req .B) (w .1)))
 
       go : Here M l c p ⊎ Still M l c p → (writes p n c ≡ true) ⊎ (writes p n c ≡ false)
           → bytesAt next p n ≡ cond (writes p n c) (splice (bytesAt l p n) (x .req .A) (x .payload)) (bytesAt l p n)
@@ -187,7 +191,7 @@ module _ (M : ℕ) (l : Ledger) (c : Fed) (s : Sane l) (ok : c .row ≡ 0 → Pa
           rw e (ap (λ (q : Partition Held). bytesIn q n) (h .effect)
           ∙ bytes-same M x now (partitionAt l p) (operationOf x) n
           (λ k. r (record { granted = h .granted; partition = h .partition; object = k }))
-          (λ o k. true≢false (sym (is-writes p n (h .granted, o, h .partition, k)) ∙ e)))
+          (λ a b o k. true≢false (sym (is-writes p n a b (h .granted) o (h .partition) k) ∙ e)))
       go (inr h) (inl e) = absurd (h .away (writes-is p n e .0) (writes-is p n e .2))
       go (inr h) (inr e) = rw e (ap (λ (q : Partition Held). bytesIn q n) (h .same))
 

@@ -15,27 +15,31 @@ use Rattle.rules.specs.declared.Object.{Object}
 use Rattle.rules.specs.Client.{build, Built, check, frameOf}
 use Rattle.digest.specs.Hmac.{hmac}
 use Rattle.rules.specs.Drive.{Drive, format, lives, partitionAt, quarter, refresh, sound}
-use Rattle.rules.specs.Frame.{
-  covered,
-  credentialAt,
-  Fields,
-  Operation,
-  operationOf,
-  read,
-  requestAt,
-  memory,
-  fields,
-  entry,
+use Rattle.rules.specs.declared.Operation.{Operation}
+use Rattle.rules.specs.declared.Operation.the-variants.{Read}
+use Rattle.rules.specs.Frame.{covered, credentialAt, Fields, operationOf, requestAt, memory, fields, entry}
+use Rattle.rules.specs.Gate.{Answer, Call, gate, granted, wholeAnswer}
+use Rattle.rules.specs.Ledger.{
+  bareScope,
+  clocked,
+  Fed,
+  Held,
+  Ledger,
+  ledger,
+  ledgerScope,
+  numberOf,
+  tablesOf,
+  start,
 }
-use Rattle.rules.specs.Gate.{Answer, Call, gate, granted}
-use Rattle.rules.specs.Ledger.{clocked, Fed, Held, Ledger, ledger, numberOf, tablesOf, start}
-use Rattle.rules.specs.Operations.{headSize, resultLength, result}
+use Rattle.rules.specs.Operations.{headSize, resultLength, perform}
+use Rattle.rules.specs.Scope.{driveScope}
 use Rattle.rules.specs.Rows.{bounds, frameRows, rows}
 
 -- ---- the gate grants exactly when no row applies, and a grant is the one that the rules give
 pub record Exact (d : Drive) (m : List ℕ) (c : Call) : Type 0 where
   pub grants : (gate d m c .row ≡ 0) ↔ (clear (rows d m (c .frame) (c .clock) (c .space)) ≡ true)
-  pub grant : gate d m c .row ≡ 0 → gate d m c ≡ granted (refresh (c .clock) d) m (fields (c .frame)) (c .space)
+  pub grant : gate d m c .row ≡ 0 → gate d m c ≡ wholeAnswer (fields (c .frame) .cred) (refresh (c .clock) d)
+      (granted (driveScope (refresh (c .clock) d) (fields (c .frame) .cred)) m (fields (c .frame)) (c .space))
   -- and the row returned is the first that applies
   pub row : gate d m c .row ≡ firstRow (rows d m (c .frame) (c .clock) (c .space))
 
@@ -89,8 +93,8 @@ pub record RepliesBack (d : Drive) (m : List ℕ) (c : Call) (credential request
     row = 0;
     start = headSize;
     length = resultLength (requestAt request 0);
-    result = result (operationOf (fields (c .frame))) (quarter (d .size)) (refresh (c .clock) d .tables)
-        (fields (c .frame)) m;
+    result = perform (operationOf (fields (c .frame))) (driveScope (refresh (c .clock) d) (fields (c .frame) .cred))
+        (fields (c .frame)) m .result;
   }
 
 -- ---- a list of calls: "Each call gets the drive that the last one returned and the medium as it left it"
@@ -98,7 +102,7 @@ pub record State : Type 0 where
   pub drive : Drive
   pub medium : List ℕ
 
-unfoldable pub answer : State → Call → Answer
+unfoldable pub answer : State → Call → Answer Drive
 answer s c = gate (s .drive) (s .medium) c
 
 unfoldable pub step : State → Call → State
@@ -120,7 +124,7 @@ pub record Nonce : Type 0 where
   pub entry : Entry
 
 unfoldable pub nonce : Call → Nonce
-nonce c = record { memory = memory (fields (c .frame)); entry = entry (fields (c .frame)) }
+nonce c = record { memory = memory (fields (c .frame) .cred); entry = entry (fields (c .frame) .cred) (fields (c .frame) .req) }
 
 -- the bytes of the ledger's object that a frame names
 unfoldable pub bytesOf : Ledger → Fields → List ℕ
@@ -181,16 +185,15 @@ pub record Demand3 (M : ℕ) (s : State) (l : Ledger) (calls : List Call) : Type
   pub kept : (before later : List Call) (c : Call)
       → calls ≡ before ++ (c ∷ later)
       → Granted s before c
-      → firstRow (bounds (tablesOf (clocked (c .clock) (book M s l before))) (asks c)) ≡ 0
+      → firstRow (bounds (bareScope (ledgerScope M (clocked (c .clock) (book M s l before)) (asks c .cred))) (asks c)) ≡ 0
   -- "Each granted read shows, for every byte, exactly the last granted write to it since that object's creation, or
   -- zero":
   -- after the reply's head, the bytes from A up to A + B of the ledger's object
-  pub shown : (before later : List Call) (c : Call)
+  pub shown : (before later : List Call) (c : Call) (A B : ℕ)
       → calls ≡ before ++ (c ∷ later)
       → Granted s before c
-      → does c ≡ read
-      → part (answer (after s before) c .space) headSize (asks c .req .B)
-      ≡ part (bytesOf (book M s l before) (asks c)) (asks c .req .A) (asks c .req .B)
+      → does c ≡ Read A B
+      → part (answer (after s before) c .space) headSize B ≡ part (bytesOf (book M s l before) (asks c)) A B
   -- "After every call the drive holds exactly the objects that the grants so far left, their areas disjoint and each
   -- inside its
   -- own partition."

@@ -8,7 +8,7 @@ use Prim.Native.Nat.{ℕ, _+_, _/_, max}
 use lib.ListN.{length, getD, replicate}
 use lib.Dec.{leb}
 use Rattle.lemmas.specs.Tests.{_over_, _is_, _isnt_}
-use Rattle.lemmas.specs.Lists.{every, pairs, keep, update}
+use Rattle.lemmas.specs.Lists.{every, pairs, keep}
 use Rattle.lemmas.specs.Rows.{Row, line, firstRow}
 use Rattle.rules.specs.declared.Object.{Object}
 use Rattle.rules.specs.declared.Entry.{Entry}
@@ -59,15 +59,9 @@ module _ {A : Type 0} where
   abbrev pub partitionAt : Tables A → ℕ → Partition A
   partitionAt t p = getD (t .partitions) p (unused 0)
 
-  -- the tables with another mark, with other keys, and with f applied to partition p
+  -- the tables with another mark
   abbrev pub withHighWater : ℕ → Tables A → Tables A
   withHighWater mark t = record { highWater = mark; keys = t .keys; partitions = t .partitions }
-
-  abbrev pub withKeys : Keys → Tables A → Tables A
-  withKeys keys t = record { highWater = t .highWater; keys = keys; partitions = t .partitions }
-
-  abbrev pub at : ℕ → (Partition A → Partition A) → Tables A → Tables A
-  at p f t = record { highWater = t .highWater; keys = t .keys; partitions = update p f (t .partitions) }
 
 -- ---- "Quarter q = M / 4 rounded down; partition p spans p × q up to (p + 1) × q"
 abbrev pub quarter : ℕ → ℕ

@@ -10,6 +10,8 @@ use Rattle.lemmas.specs.BigEndian.{numberAt, encode}
 use Rattle.rules.specs.declared.Credential.{Credential}
 use Rattle.rules.specs.declared.Request.{Request}
 use Rattle.rules.specs.declared.Entry.{Entry}
+use Rattle.rules.specs.declared.Operation.{Operation}
+use Rattle.rules.specs.declared.Operation.the-variants.{Read, Write, Look, Raise, Create, Delete, SetKey}
 
 -- ---- the lengths of a frame's parts: credential, request, n data bytes, digest
 abbrev pub credentialSize : ℕ
@@ -111,21 +113,23 @@ unfoldable pub covered : ℕ → List ℕ → List ℕ → List ℕ → List ℕ
 covered level credential request payload = cond (level is 0) (credential ++ request)
     (credential ++ (request ++ payload))
 
--- ---- operations 1 to 7; any other byte is unknown
-pub data Operation : Type 0 where
-  unknown read write look raise create delete setKey : Operation
+-- ---- operations 1 to 7, each with its own arguments out of A and B
+abbrev pub operations : Request → List Operation
+operations r =
+    Read (r .A) (r .B) ∷ Write (r .A) (r .B) ∷ Look ∷ Raise ∷ Create (r .A) (r .B) ∷ Delete ∷ SetKey (r .A) ∷ []
 
-unfoldable pub operation : ℕ → Operation
-operation k = getD (unknown ∷ read ∷ write ∷ look ∷ raise ∷ create ∷ delete ∷ setKey ∷ []) k unknown
+-- row 4 refuses any other byte; that this is total, such a byte is read as a look, which changes nothing
+unfoldable pub operation : Request → Operation
+operation r = getD (Look ∷ operations r) (r .operation) Look
 
 -- the operation that a frame asks for
 abbrev pub operationOf : Fields → Operation
-operationOf x = operation (x .req .operation)
+operationOf x = operation (x .req)
 
 -- ---- the nonce: what a grant enters, and in which of the five memories.
 -- One memory for each partition (slots 0 to 2), a fifth for slots 3 and 4
-unfoldable pub entry : Fields → Entry
-entry x = record { slot = x .cred .slot; holder = x .cred .holder; time = x .req .time; count = x .req .count }
+unfoldable pub entry : Credential → Request → Entry
+entry c r = record { slot = c .slot; holder = c .holder; time = r .time; count = r .count }
 
-unfoldable pub memory : Fields → ℕ
-memory x = cond (x .cred .slot under 3) (x .cred .partition) 4
+unfoldable pub memory : Credential → ℕ
+memory c = cond (c .slot under 3) (c .partition) 4

@@ -5,9 +5,12 @@ use Prim.Native.Nat.{ℕ}
 use Rattle.lemmas.specs.Tests.{_is_}
 use Rattle.lemmas.specs.Lists.{splice}
 use Rattle.lemmas.specs.Rows.{firstRow}
+use Rattle.rules.specs.declared.Credential.{Credential}
+use Rattle.rules.specs.declared.Object.{Object}
 use Rattle.rules.specs.Frame.{Fields, fields, operationOf}
-use Rattle.rules.specs.Drive.{Drive, quarter, refresh}
-use Rattle.rules.specs.Operations.{reply, replyLength, mediumAfter, driveAfter}
+use Rattle.rules.specs.Drive.{Drive, refresh}
+use Rattle.rules.specs.Scope.{Scope, withMemory, driveScope, driveWithScope}
+use Rattle.rules.specs.Operations.{perform, remember, reply, replyLength}
 use Rattle.rules.specs.Rows.{rows}
 
 -- what a call brings: a frame, a clock reading and a space for the reply
@@ -16,35 +19,49 @@ pub record Call : Type 0 where
   pub clock : ℕ
   pub space : List ℕ
 
--- what it gives, and what it leaves of drive, medium and reply space
-pub record Answer : Type 0 where
+-- what it gives, and what it leaves of the drive (or of the frame's scope in it), of medium and reply space
+pub record Answer (Left : Type 0) : Type 0 where
   pub row : ℕ
   pub length : ℕ
-  pub drive : Drive
+  pub drive : Left
   pub medium : List ℕ
   pub space : List ℕ
 
 -- "The lowest row that applies is returned, with length 0. Everything lent is untouched"
-abbrev pub refused : ℕ → Drive → List ℕ → List ℕ → Answer
+abbrev pub refused : {Left : Type 0} → ℕ → Left → List ℕ → List ℕ → Answer Left
 refused row d m space = record { row = row; length = 0; drive = d; medium = m; space = space }
 
--- "A grant returns 0 and the reply's length." d has its new mark and no outlived entry
-unfoldable pub granted : Drive → List ℕ → Fields → List ℕ → Answer
-granted d m x space = record {
-  row = 0;
-  length = replyLength (x .req);
-  drive = driveAfter (operationOf x) x d;
-  medium = mediumAfter (operationOf x) (quarter (d .size)) x (d .tables) m;
-  space = splice space 0 (reply (operationOf x) (quarter (d .size)) (d .tables) x m);
+-- "A grant returns 0 and the reply's length." It enters its nonce. s has the new mark and no outlived entry
+unfoldable pub granted : Scope Object → List ℕ → Fields → List ℕ → Answer (Scope Object)
+granted s m x space =
+    let did = perform (operationOf x) s x m in
+    record {
+      row = 0;
+      length = replyLength (x .req);
+      drive = withMemory (remember x (s .memory)) (did .scope);
+      medium = did .medium;
+      space = splice space 0 (reply (s .keys) x (did .result));
+    }
+
+-- the same of the whole drive d: all else of it stays
+abbrev pub wholeAnswer : Credential → Drive → Answer (Scope Object) → Answer Drive
+wholeAnswer c d a = record {
+  row = a .row;
+  length = a .length;
+  drive = driveWithScope c (a .drive) d;
+  medium = a .medium;
+  space = a .space;
 }
 
 -- "of the drive only mark and outlived entries change"; by row 1 "it comes back unchanged, mark included"
-abbrev pub left : ℕ → ℕ → Drive → Drive
-left row clock d = cond (row is 1) d (refresh clock d)
+abbrev pub afterRefusal : ℕ → ℕ → Drive → Drive
+afterRefusal row clock d = cond (row is 1) d (refresh clock d)
 
-unfoldable pub gate : Drive → List ℕ → Call → Answer
+unfoldable pub gate : Drive → List ℕ → Call → Answer Drive
 gate d m c =
+    let x = fields (c .frame) in
+    let now = refresh (c .clock) d in
     let row = firstRow (rows d m (c .frame) (c .clock) (c .space)) in
     cond (row is 0)
-    (granted (refresh (c .clock) d) m (fields (c .frame)) (c .space))
-    (refused row (left row (c .clock) d) m (c .space))
+    (wholeAnswer (x .cred) now (granted (driveScope now (x .cred)) m x (c .space)))
+    (refused row (afterRefusal row (c .clock) d) m (c .space))

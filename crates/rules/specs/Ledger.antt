@@ -7,32 +7,13 @@ use Prim.Native.Nat.{ℕ}
 use lib.ListN.{replicate}
 use Rattle.lemmas.specs.Tests.{_is_, _isnt_}
 use Rattle.lemmas.specs.Lists.{splice, keep, change}
+use Rattle.rules.specs.declared.Credential.{Credential}
 use Rattle.rules.specs.declared.Object.{Object}
-use Rattle.rules.specs.Frame.{
-  Operation,
-  unknown,
-  read,
-  write,
-  look,
-  raise,
-  create,
-  delete,
-  setKey,
-  Fields,
-  fields,
-  operationOf,
-}
-use Rattle.rules.specs.Drive.{
-  Partition,
-  changed,
-  Tables,
-  withHighWater,
-  withKeys,
-  at,
-  newTables,
-  quarter,
-  newHighWater,
-}
+use Rattle.rules.specs.declared.Operation.{Operation}
+use Rattle.rules.specs.declared.Operation.the-variants.{Read, Write, Look, Raise, Create, Delete, SetKey}
+use Rattle.rules.specs.Frame.{Fields, fields, operationOf}
+use Rattle.rules.specs.Drive.{Partition, changed, Tables, withHighWater, newTables, quarter, newHighWater}
+use Rattle.rules.specs.Scope.{Scope, withPartition, withKeys, tablesScope, withScope}
 use Rattle.rules.specs.Operations.{startOf, nextVersion, withVersion, keySet}
 
 -- ---- "It holds a mark, the keys, and for each partition its version, the last version given and its objects ..,
@@ -54,17 +35,30 @@ bare p = changed (p .version) (p .last) (map Held.object (p .objects)) p
 unfoldable pub tablesOf : Ledger → Tables Object
 tablesOf l = record { highWater = l .highWater; keys = l .keys; partitions = map bare (l .partitions) }
 
+-- the scope of a frame in the ledger, which has no nonce memory; and that without the bytes, as the rows judge it
+abbrev pub ledgerScope : ℕ → Ledger → Credential → Scope Held
+ledgerScope M l c = tablesScope (quarter M) l [] c
+
+abbrev pub bareScope : Scope Held → Scope Object
+bareScope s = record {
+  quarter = s .quarter;
+  highWater = s .highWater;
+  keys = s .keys;
+  partition = bare (s .partition);
+  memory = s .memory;
+}
+
 -- ---- "Start: mark 0; master and drive key set, no other; each partition's version and last given are F; no object."
 unfoldable pub start : ℕ → List ℕ → List ℕ → Ledger
 start F master drive = newTables F (some master) (some drive)
 
 -- ---- what a grant does
 -- "2: the data replaces the object's bytes from A up to A + B."
-unfoldable pub wrote : Fields → Held → Held
-wrote x h = record { object = h .object; bytes = splice (h .bytes) (x .req .A) (x .payload) }
+unfoldable pub wrote : ℕ → List ℕ → Held → Held
+wrote offset new h = record { object = h .object; bytes = splice (h .bytes) offset new }
 
-unfoldable pub written : Fields → Partition Held → Partition Held
-written x p = changed (p .version) (p .last) (change numberOf (x .cred .object) (wrote x) (p .objects)) p
+unfoldable pub written : ℕ → ℕ → List ℕ → Partition Held → Partition Held
+written n offset new p = changed (p .version) (p .last) (change numberOf n (wrote offset new) (p .objects)) p
 
 -- "4: last given rises by one; the object, or for object 0 the partition, has it as version."
 abbrev pub heldVersion : ℕ → Held → Held
@@ -90,16 +84,14 @@ unfoldable pub gone : ℕ → Partition Held → Partition Held
 gone n p = changed (p .version) (p .last) (keep (λ (h : Held). numberOf h isnt n) (p .objects)) p
 
 -- "1, 3: nothing." "7: keys change by operation 7, from the ledger's signing key."
-unfoldable pub ledgerAfter : Operation → ℕ → Fields → Ledger → Ledger
-ledgerAfter unknown M x l = l
-ledgerAfter read M x l = l
-ledgerAfter write M x l = at (x .cred .partition) (written x) l
-ledgerAfter look M x l = l
-ledgerAfter raise M x l = at (x .cred .partition) (raisedHere (x .cred .object)) l
-ledgerAfter create M x l = at (x .cred .partition)
-    (joined (x .req .A) (x .req .B) (startOf (quarter M) (tablesOf l) x)) l
-ledgerAfter delete M x l = at (x .cred .partition) (gone (x .cred .object)) l
-ledgerAfter setKey M x l = withKeys (keySet x (l .keys)) l
+unfoldable pub ledgerAfter : Operation → Scope Held → Fields → Scope Held
+ledgerAfter (Read offset length) s x = s
+ledgerAfter (Write offset length) s x = withPartition (written (x .cred .object) offset (x .payload) (s .partition)) s
+ledgerAfter Look s x = s
+ledgerAfter Raise s x = withPartition (raisedHere (x .cred .object) (s .partition)) s
+ledgerAfter (Create number size) s x = withPartition (joined number size (startOf (bareScope s) size) (s .partition)) s
+ledgerAfter Delete s x = withPartition (gone (x .cred .object) (s .partition)) s
+ledgerAfter (SetKey target) s x = withKeys (keySet target x (s .keys)) s
 
 -- ---- "fed .. each call's frame, clock reading and row; nothing comes from the drive record"
 pub record Fed : Type 0 where
@@ -115,7 +107,8 @@ clocked clock l = withHighWater (newHighWater (l .highWater) clock) l
 unfoldable pub feed : ℕ → Ledger → Fed → Ledger
 feed M l c =
     let x = fields (c .frame) in
-    cond (c .row is 0) (ledgerAfter (operationOf x) M x (clocked (c .clock) l)) (clocked (c .clock) l)
+    let now = clocked (c .clock) l in
+    cond (c .row is 0) (withScope (x .cred) (ledgerAfter (operationOf x) (ledgerScope M now (x .cred)) x) now) now
 
 unfoldable pub ledger : ℕ → Ledger → List Fed → Ledger
 ledger M l [] = l

@@ -1,6 +1,7 @@
 -- Document 01, read in this order.
 pub mod Frame
 pub mod Drive
+pub mod Scope
 pub mod BestFit
 pub mod Operations
 pub mod Rows

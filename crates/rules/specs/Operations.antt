@@ -1,5 +1,5 @@
 -- Document 01, "Operations": what a frame names, the seven operations' results and effects, and the reply.
--- q: the quarter. t: the tables. x: the frame's fields. m: the medium.
+-- s: the frame's scope. x: its fields. c: the numbers of its credential. m: the medium.
 use mathlib.Core.Bool.{Bool, _&&_, _||_, cond}
 use mathlib.Core.Option.{Option, none, some, Option·getD}
 use mathlib.Core.List.{List, [], _∷_, _++_}
@@ -9,37 +9,15 @@ use Rattle.lemmas.specs.Tests.{_is_, _isnt_}
 use Rattle.lemmas.specs.Lists.{part, splice, keep, update, find, change}
 use Rattle.lemmas.specs.BigEndian.{bigEndian}
 use Rattle.digest.specs.Hmac.{hmac}
+use Rattle.rules.specs.declared.Credential.{Credential}
 use Rattle.rules.specs.declared.Request.{Request}
 use Rattle.rules.specs.declared.Object.{Object}
 use Rattle.rules.specs.declared.Entry.{Entry}
-use Rattle.rules.specs.Frame.{
-  Operation,
-  unknown,
-  read,
-  write,
-  look,
-  raise,
-  create,
-  delete,
-  setKey,
-  Fields,
-  covered,
-  entry,
-  memory,
-}
-use Rattle.rules.specs.Drive.{
-  Partition,
-  changed,
-  Key,
-  Keys,
-  Tables,
-  Drive,
-  renewed,
-  partitionAt,
-  withKeys,
-  at,
-  quarter,
-}
+use Rattle.rules.specs.declared.Operation.{Operation}
+use Rattle.rules.specs.declared.Operation.the-variants.{Read, Write, Look, Raise, Create, Delete, SetKey}
+use Rattle.rules.specs.Frame.{Fields, covered, entry}
+use Rattle.rules.specs.Drive.{Partition, changed, Key, Keys}
+use Rattle.rules.specs.Scope.{Scope, withPartition, withKeys}
 use Rattle.rules.specs.BestFit.{extentStep, bestFit}
 
 -- ---- what a frame names
@@ -60,86 +38,42 @@ credentialKey k x = hmac (signing k x) (x .credential)
 unfoldable pub digestOf : Keys → Fields → List ℕ
 digestOf k x = hmac (credentialKey k x) (covered (x .req .level) (x .credential) (x .request) (x .payload))
 
--- the partition, and the object in it
-abbrev pub home : {A : Type 0} → Tables A → Fields → Partition A
-home t x = partitionAt t (x .cred .partition)
-
-unfoldable pub named : Tables Object → Fields → Option Object
-named t x = find Object.number (x .cred .object) (home t x .objects)
+-- the object in its partition
+unfoldable pub named : Scope Object → Credential → Option Object
+named s c = find Object.number (c .object) (s .partition .objects)
 
 abbrev pub noObject : Object
 noObject = record { number = 0; version = 0; size = 0; start = 0 }
 
-unfoldable pub objectOf : Tables Object → Fields → Object
-objectOf t x = Option·getD (named t x) noObject
+unfoldable pub objectOf : Scope Object → Credential → Object
+objectOf s c = Option·getD (named s c) noObject
 
 -- the present version and the size: object 0 means the partition
-unfoldable pub present : Tables Object → Fields → ℕ
-present t x = cond (x .cred .object is 0) (home t x .version) (objectOf t x .version)
+unfoldable pub present : Scope Object → Credential → ℕ
+present s c = cond (c .object is 0) (s .partition .version) (objectOf s c .version)
 
-abbrev pub sizeOf : ℕ → Tables Object → Fields → ℕ
-sizeOf q t x = cond (x .cred .object is 0) q (objectOf t x .size)
+abbrev pub sizeOf : Scope Object → Credential → ℕ
+sizeOf s c = cond (c .object is 0) (s .quarter) (objectOf s c .size)
 
--- where the object's area starts on the medium
-unfoldable pub extentStart : ℕ → Tables Object → Fields → ℕ
-extentStart q t x = x .cred .partition * q + objectOf t x .start
+-- where the quarter starts on the medium, and where the object's area does
+abbrev pub quarterStart : Scope Object → Credential → ℕ
+quarterStart s c = c .partition * s .quarter
 
--- where a new object's area starts in its quarter
-unfoldable pub placeOf : ℕ → Tables Object → Fields → Option ℕ
-placeOf q t x = bestFit extentStep q (home t x .objects) (x .req .B)
+unfoldable pub extentStart : Scope Object → Credential → ℕ
+extentStart s c = quarterStart s c + objectOf s c .start
 
-unfoldable pub startOf : ℕ → Tables Object → Fields → ℕ
-startOf q t x = Option·getD (placeOf q t x) 0
+-- where a new area of so many bytes starts in its quarter
+unfoldable pub placeOf : Scope Object → ℕ → Option ℕ
+placeOf s size = bestFit extentStep (s .quarter) (s .partition .objects) size
+
+unfoldable pub startOf : Scope Object → ℕ → ℕ
+startOf s size = Option·getD (placeOf s size) 0
 
 -- the next version
 abbrev pub nextVersion : {A : Type 0} → Partition A → ℕ
 nextVersion p = p .last + 1
 
--- ---- results, operation by operation
-unfoldable pub result : Operation → ℕ → Tables Object → Fields → List ℕ → List ℕ
-result unknown q t x m = []
-result read q t x m = part m (extentStart q t x + x .req .A) (x .req .B)
-result write q t x m = []
-result look q t x m = bigEndian 4 (sizeOf q t x) ++ bigEndian 4 (present t x)
-result raise q t x m = bigEndian 4 (nextVersion (home t x))
-result create q t x m = bigEndian 4 (nextVersion (home t x))
-result delete q t x m = []
-result setKey q t x m = []
-
--- and how long they are
-abbrev pub lengthOf : ℕ → ℕ → ℕ
-lengthOf operation B = cond (operation is 1) B (cond (operation is 3) 8 (cond (operation is 4 || operation is 5) 4 0))
-
-abbrev pub resultLength : Request → ℕ
-resultLength r = lengthOf (r .operation) (r .B)
-
--- ---- "Reply: mark 4C 41, operation, level, result length (four bytes), result; at level 2, then HMAC .."
-abbrev pub headSize : ℕ
-headSize = 8
-
-unfoldable pub head : Request → ℕ → List ℕ
-head r n = 0x4c ∷ 0x41 ∷ r .operation ∷ r .level ∷ bigEndian 4 n
-
-unfoldable pub headed : Request → List ℕ → List ℕ
-headed r result = head r (length result) ++ result
-
--- what a reply's digest is taken over: "credential, request, those 8 bytes and result"
-abbrev pub replyCovered : List ℕ → List ℕ → List ℕ → List ℕ
-replyCovered credential request headAndResult = credential ++ (request ++ headAndResult)
-
-unfoldable pub sealed : Keys → Fields → List ℕ → List ℕ
-sealed k x result =
-    cond (x .req .level is 2) (hmac (credentialKey k x)
-    (replyCovered (x .credential) (x .request) (headed (x .req) result))) []
-
-unfoldable pub reply : Operation → ℕ → Tables Object → Fields → List ℕ → List ℕ
-reply o q t x m = headed (x .req) (result o q t x m) ++ sealed (t .keys) x (result o q t x m)
-
-unfoldable pub replyLength : Request → ℕ
-replyLength r = headSize + resultLength r + cond (r .level is 2) 32 0
-
--- ---- effects
--- 2. Write: the data replaces the object's bytes from A on
+-- ---- how a partition and the keys change
 -- 4. Raise: "object or partition gets the next version"
 abbrev pub withVersion : ℕ → Object → Object
 withVersion v a = record { number = a .number; version = v; size = a .size; start = a .start }
@@ -218,35 +152,71 @@ keyPut slot partition A new k =
     (cond (slot is 3) (withPartitionKey A new k)
     (cond (A is 0) (withWorking0 partition new k) (withWorking1 partition new k)))
 
-unfoldable pub keySet : Fields → Keys → Keys
-keySet x k = keyPut (x .cred .slot) (x .cred .partition) (x .req .A) (newKey k x) k
+unfoldable pub keySet : ℕ → Fields → Keys → Keys
+keySet target x k = keyPut (x .cred .slot) (x .cred .partition) target (newKey k x) k
 
--- the tables after a grant
-unfoldable pub tablesAfter : Operation → ℕ → Fields → Tables Object → Tables Object
-tablesAfter unknown q x t = t
-tablesAfter read q x t = t
-tablesAfter write q x t = t
-tablesAfter look q x t = t
-tablesAfter raise q x t = at (x .cred .partition) (raised (x .cred .object)) t
-tablesAfter create q x t = at (x .cred .partition) (created (x .req .A) (x .req .B) (startOf q t x)) t
-tablesAfter delete q x t = at (x .cred .partition) (deleted (x .cred .object)) t
-tablesAfter setKey q x t = withKeys (keySet x (t .keys)) t
+-- ---- what an operation gives and leaves: its result, the scope and the medium
+pub record Performed : Type 0 where
+  pub result : List ℕ
+  pub scope : Scope Object
+  pub medium : List ℕ
 
--- the medium after a grant: a write's data, and a new area's zeros
-unfoldable pub mediumAfter : Operation → ℕ → Fields → Tables Object → List ℕ → List ℕ
-mediumAfter unknown q x t m = m
-mediumAfter read q x t m = m
-mediumAfter write q x t m = splice m (extentStart q t x + x .req .A) (x .payload)
-mediumAfter look q x t m = m
-mediumAfter raise q x t m = m
-mediumAfter create q x t m = splice m (x .cred .partition * q + startOf q t x) (replicate (x .req .B) 0)
-mediumAfter delete q x t m = m
-mediumAfter setKey q x t m = m
+abbrev pub performed : List ℕ → Scope Object → List ℕ → Performed
+performed result s m = record { result = result; scope = s; medium = m }
+
+-- operation by operation
+unfoldable pub perform : Operation → Scope Object → Fields → List ℕ → Performed
+-- 1. Read: "result the B bytes"
+perform (Read offset length) s x m = performed (part m (extentStart s (x .cred) + offset) length) s m
+-- 2. Write: the data replaces the object's bytes from A on; "Result empty"
+perform (Write offset length) s x m = performed [] s (splice m (extentStart s (x .cred) + offset) (x .payload))
+-- 3. Look: "size (the quarter's for object 0) and version, four bytes each"
+perform Look s x m = performed (bigEndian 4 (sizeOf s (x .cred)) ++ bigEndian 4 (present s (x .cred))) s m
+-- 4. Raise: "object or partition gets the next version; result that version in four bytes"
+perform Raise s x m =
+    performed (bigEndian 4 (nextVersion (s .partition))) (withPartition (raised (x .cred .object) (s .partition)) s) m
+-- 5. Create: the area "is zeroed"; "result that version in four bytes"
+perform (Create number size) s x m =
+    performed (bigEndian 4 (nextVersion (s .partition)))
+    (withPartition (created number size (startOf s size) (s .partition)) s)
+    (splice m (quarterStart s (x .cred) + startOf s size) (replicate size 0))
+-- 6. Delete: "the object goes"; "Result empty"
+perform Delete s x m = performed [] (withPartition (deleted (x .cred .object) (s .partition)) s) m
+-- 7. Set key: "Result empty; lower keys keep their values"
+perform (SetKey target) s x m = performed [] (withKeys (keySet target x (s .keys)) s) m
 
 -- "A grant enters (slot, holder, T, count)"
 unfoldable pub remember : Fields → List Entry → List Entry
-remember x l = l ++ (entry x ∷ [])
+remember x l = l ++ (entry (x .cred) (x .req) ∷ [])
 
-unfoldable pub driveAfter : Operation → Fields → Drive → Drive
-driveAfter o x d =
-    renewed (tablesAfter o (quarter (d .size)) x (d .tables)) (update (memory x) (remember x) (d .memories)) d
+-- ---- how long a result is
+abbrev pub lengthOf : ℕ → ℕ → ℕ
+lengthOf operation B = cond (operation is 1) B (cond (operation is 3) 8 (cond (operation is 4 || operation is 5) 4 0))
+
+abbrev pub resultLength : Request → ℕ
+resultLength r = lengthOf (r .operation) (r .B)
+
+-- ---- "Reply: mark 4C 41, operation, level, result length (four bytes), result; at level 2, then HMAC .."
+abbrev pub headSize : ℕ
+headSize = 8
+
+unfoldable pub head : Request → ℕ → List ℕ
+head r n = 0x4c ∷ 0x41 ∷ r .operation ∷ r .level ∷ bigEndian 4 n
+
+unfoldable pub headed : Request → List ℕ → List ℕ
+headed r result = head r (length result) ++ result
+
+-- what a reply's digest is taken over: "credential, request, those 8 bytes and result"
+abbrev pub replyCovered : List ℕ → List ℕ → List ℕ → List ℕ
+replyCovered credential request headAndResult = credential ++ (request ++ headAndResult)
+
+unfoldable pub sealed : Keys → Fields → List ℕ → List ℕ
+sealed k x result =
+    cond (x .req .level is 2) (hmac (credentialKey k x)
+    (replyCovered (x .credential) (x .request) (headed (x .req) result))) []
+
+unfoldable pub reply : Keys → Fields → List ℕ → List ℕ
+reply k x result = headed (x .req) result ++ sealed k x result
+
+unfoldable pub replyLength : Request → ℕ
+replyLength r = headSize + resultLength r + cond (r .level is 2) 32 0

@@ -1,10 +1,10 @@
 -- Document 01, "Why the drive says no", rows 1 to 23: each row's test under the document's words, then all as one
 -- table.
--- f: the frame. c, r: the numbers of its credential and request. x: its fields. t: the tables, with the new mark.
+-- f: the frame. c, r: the numbers of its credential and request. x: its fields. s: its scope.
 use mathlib.Core.Bool.{Bool, not, _&&_, _||_, cond}
 use mathlib.Core.List.{List, [], _∷_, _++_}
 use Prim.Native.Nat.{ℕ, _+_, _-_, _/_, _%_, _^_}
-use lib.ListN.{length, getD}
+use lib.ListN.{length}
 use lib.Dec.{leb}
 use Rattle.lemmas.specs.Tests.{_over_, _under_, _is_, _isnt_, any}
 use Rattle.lemmas.specs.Lists.{same, some?, find, missing}
@@ -12,10 +12,10 @@ use Rattle.lemmas.specs.Rows.{Row, line}
 use Rattle.rules.specs.declared.Credential.{Credential}
 use Rattle.rules.specs.declared.Request.{Request}
 use Rattle.rules.specs.declared.Object.{Object}
-use Rattle.rules.specs.declared.Entry.{Entry}
-use Rattle.rules.specs.Frame.{credentialMagic, requestMagic, Fields, fields, entry, memory}
-use Rattle.rules.specs.Drive.{Tables, Drive, quarter, mostObjects, mostEntries, sound, sameEntry, refresh}
-use Rattle.rules.specs.Operations.{keyIn, digestOf, home, named, objectOf, present, placeOf, replyLength}
+use Rattle.rules.specs.Frame.{credentialMagic, requestMagic, Fields, fields, entry}
+use Rattle.rules.specs.Drive.{Drive, mostObjects, mostEntries, sound, sameEntry, refresh}
+use Rattle.rules.specs.Scope.{Scope, driveScope}
+use Rattle.rules.specs.Operations.{keyIn, digestOf, named, objectOf, present, placeOf, replyLength}
 
 -- 1. "The drive record is not sound .., or the medium lent is not M bytes long."
 unfoldable pub row1 : Drive → List ℕ → Bool
@@ -94,48 +94,45 @@ abbrev pub row7 : Credential → Request → Bool
 row7 c r = r .level under c .least || (r .level is 0 && r .operation is 7)
 
 -- 8. "The named key was never set."
-unfoldable pub row8 : Tables Object → Fields → Bool
-row8 t x = missing (keyIn (t .keys) (x .cred .partition) (x .cred .slot))
+unfoldable pub row8 : Scope Object → Credential → Bool
+row8 s c = missing (keyIn (s .keys) (c .partition) (c .slot))
 
 -- 9. "The digest differs."
-unfoldable pub row9 : Tables Object → Fields → Bool
-row9 t x = not (same (x .digest) (digestOf (t .keys) x))
+unfoldable pub row9 : Scope Object → Fields → Bool
+row9 s x = not (same (x .digest) (digestOf (s .keys) x))
 
 -- 10. "The mark is over the expiry."
 abbrev pub expired : ℕ → ℕ → Bool
 expired mark expiry = mark over expiry
 
-unfoldable pub row10 : Tables Object → Fields → Bool
-row10 t x = expired (t .highWater) (x .cred .expiry)
+unfoldable pub row10 : Scope Object → Credential → Bool
+row10 s c = expired (s .highWater) (c .expiry)
 
 -- 11. "T + 5,000 is under the mark, or T is over the mark + 5,000."
 abbrev pub untimely : ℕ → ℕ → Bool
 untimely mark T = T + 5000 under mark || T over mark + 5000
 
-unfoldable pub row11 : Tables Object → Fields → Bool
-row11 t x = untimely (t .highWater) (x .req .time)
+unfoldable pub row11 : Scope Object → Request → Bool
+row11 s r = untimely (s .highWater) (r .time)
 
 -- 12. "Its memory holds the nonce."
-unfoldable pub remembered : Drive → Fields → List Entry
-remembered d x = getD (d .memories) (memory x) []
-
-unfoldable pub row12 : Drive → Fields → Bool
-row12 d x = some? (sameEntry (entry x)) (remembered d x)
+unfoldable pub row12 : Scope Object → Credential → Request → Bool
+row12 s c r = some? (sameEntry (entry c r)) (s .memory)
 
 -- 13. "The right is missing." "Operation k needs rights bit k − 1"; bits count from the lowest
 abbrev pub bit : ℕ → ℕ → Bool
 bit k n = n / 2 ^ k % 2 is 1
 
-unfoldable pub row13 : Fields → Bool
-row13 x = not (bit (x .req .operation - 1) (x .cred .rights))
+unfoldable pub row13 : Credential → Request → Bool
+row13 c r = not (bit (r .operation - 1) (c .rights))
 
 -- 14. "The object, not 0, does not exist in the partition."
-unfoldable pub row14 : Tables Object → Fields → Bool
-row14 t x = x .cred .object isnt 0 && missing (named t x)
+unfoldable pub row14 : Scope Object → Credential → Bool
+row14 s c = c .object isnt 0 && missing (named s c)
 
 -- 15. "Operations 1–6: the version is not the present one."
-unfoldable pub row15 : Tables Object → Fields → Bool
-row15 t x = x .req .operation under 7 && x .cred .version isnt present t x
+unfoldable pub row15 : Scope Object → Credential → Request → Bool
+row15 s c r = r .operation under 7 && c .version isnt present s c
 
 -- operations 1 and 2; 4 and 5
 abbrev pub moves : Request → Bool
@@ -148,36 +145,36 @@ gives r = r .operation is 4 || r .operation is 5
 abbrev pub outOfRange : ℕ → ℕ → ℕ → ℕ → Bool
 outOfRange first end A B = not (leb first A && leb (A + B) end)
 
-unfoldable pub row16 : Fields → Bool
-row16 x = moves (x .req) && outOfRange (x .cred .first) (x .cred .end) (x .req .A) (x .req .B)
+unfoldable pub row16 : Credential → Request → Bool
+row16 c r = moves r && outOfRange (c .first) (c .end) (r .A) (r .B)
 
 -- 17. "Operations 1, 2: A + B is over the size."
-unfoldable pub row17 : Tables Object → Fields → Bool
-row17 t x = moves (x .req) && x .req .A + x .req .B over objectOf t x .size
+unfoldable pub row17 : Scope Object → Credential → Request → Bool
+row17 s c r = moves r && r .A + r .B over objectOf s c .size
 
 -- 18. "Create: the number is taken."
-unfoldable pub row18 : Tables Object → Fields → Bool
-row18 t x = x .req .operation is 5 && not (missing (find Object.number (x .req .A) (home t x .objects)))
+unfoldable pub row18 : Scope Object → Request → Bool
+row18 s r = r .operation is 5 && not (missing (find Object.number (r .A) (s .partition .objects)))
 
 -- 19. "Create: 16 objects exist."
-unfoldable pub row19 : Tables Object → Fields → Bool
-row19 t x = x .req .operation is 5 && length (home t x .objects) is mostObjects
+unfoldable pub row19 : Scope Object → Request → Bool
+row19 s r = r .operation is 5 && length (s .partition .objects) is mostObjects
 
 -- 20. "Create: no gap has B bytes."
-unfoldable pub row20 : ℕ → Tables Object → Fields → Bool
-row20 q t x = x .req .operation is 5 && missing (placeOf q t x)
+unfoldable pub row20 : Scope Object → Request → Bool
+row20 s r = r .operation is 5 && missing (placeOf s (r .B))
 
 -- 21. "Operations 4, 5: the partition has given version 4,294,967,295."
-unfoldable pub row21 : Tables Object → Fields → Bool
-row21 t x = gives (x .req) && home t x .last is 4_294_967_295
+unfoldable pub row21 : Scope Object → Request → Bool
+row21 s r = gives r && s .partition .last is 4_294_967_295
 
 -- 22. "The memory holds 64 entries; here and in row 12 outlived entries have gone first."
-unfoldable pub row22 : Drive → Fields → Bool
-row22 d x = length (remembered d x) is mostEntries
+unfoldable pub row22 : Scope Object → Bool
+row22 s = length (s .memory) is mostEntries
 
 -- 23. "The reply space is too short."
-abbrev pub row23 : Fields → List ℕ → Bool
-row23 x space = length space under replyLength (x .req)
+abbrev pub row23 : Request → ℕ → Bool
+row23 r room = room under replyLength r
 
 -- ---- the table
 -- rows 2 to 7: the frame's own bytes
@@ -191,40 +188,45 @@ frameRows f x =
     ∷ line 7 (row7 (x .cred) (x .req))
     ∷ []
 
--- rows 8 to 23: the frame and the drive, which has its new mark and no outlived entry
-unfoldable pub driveRows : Drive → Fields → List ℕ → List Row
-driveRows d x space =
-    line 8 (row8 (d .tables) x)
-    ∷ line 9 (row9 (d .tables) x)
-    ∷ line 10 (row10 (d .tables) x)
-    ∷ line 11 (row11 (d .tables) x)
-    ∷ line 12 (row12 d x)
-    ∷ line 13 (row13 x)
-    ∷ line 14 (row14 (d .tables) x)
-    ∷ line 15 (row15 (d .tables) x)
-    ∷ line 16 (row16 x)
-    ∷ line 17 (row17 (d .tables) x)
-    ∷ line 18 (row18 (d .tables) x)
-    ∷ line 19 (row19 (d .tables) x)
-    ∷ line 20 (row20 (quarter (d .size)) (d .tables) x)
-    ∷ line 21 (row21 (d .tables) x)
-    ∷ line 22 (row22 d x)
-    ∷ line 23 (row23 x space)
+-- rows 10 to 23: the frame's scope, which has the new mark and no outlived entry, the numbers of credential and
+-- request, and the reply space's length
+unfoldable pub scopeRows : Scope Object → Credential → Request → ℕ → List Row
+scopeRows s c r room =
+    line 10 (row10 s c)
+    ∷ line 11 (row11 s r)
+    ∷ line 12 (row12 s c r)
+    ∷ line 13 (row13 c r)
+    ∷ line 14 (row14 s c)
+    ∷ line 15 (row15 s c r)
+    ∷ line 16 (row16 c r)
+    ∷ line 17 (row17 s c r)
+    ∷ line 18 (row18 s r)
+    ∷ line 19 (row19 s r)
+    ∷ line 20 (row20 s r)
+    ∷ line 21 (row21 s r)
+    ∷ line 22 (row22 s)
+    ∷ line 23 (row23 r room)
     ∷ []
+
+-- and rows 8 and 9, which take the key
+unfoldable pub driveRows : Scope Object → Fields → List ℕ → List Row
+driveRows s x space = line 8 (row8 s (x .cred)) ∷ line 9 (row9 s x) ∷ scopeRows s (x .cred) (x .req) (length space)
 
 -- all, of a frame put to the drive d at a clock reading
 unfoldable pub rows : Drive → List ℕ → List ℕ → ℕ → List ℕ → List Row
-rows d m f clock space = line 1 (row1 d m) ∷ (frameRows f (fields f) ++ driveRows (refresh clock d) (fields f) space)
+rows d m f clock space =
+    line 1 (row1 d m)
+    ∷ (frameRows f (fields f) ++ driveRows (driveScope (refresh clock d) (fields f .cred)) (fields f) space)
 
 -- the rows that the ledger judges: rights, expiry, range, key and version (8 to 10 and 13 to 17)
-unfoldable pub bounds : Tables Object → Fields → List Row
-bounds t x =
-    line 8 (row8 t x)
-    ∷ line 9 (row9 t x)
-    ∷ line 10 (row10 t x)
-    ∷ line 13 (row13 x)
-    ∷ line 14 (row14 t x)
-    ∷ line 15 (row15 t x)
-    ∷ line 16 (row16 x)
-    ∷ line 17 (row17 t x)
+unfoldable pub bounds : Scope Object → Fields → List Row
+bounds s x =
+    line 8 (row8 s (x .cred))
+    ∷ line 9 (row9 s x)
+    ∷ line 10 (row10 s (x .cred))
+    ∷ line 13 (row13 (x .cred) (x .req))
+    ∷ line 14 (row14 s (x .cred))
+    ∷ line 15 (row15 s (x .cred) (x .req))
+    ∷ line 16 (row16 (x .cred) (x .req))
+    ∷ line 17 (row17 s (x .cred) (x .req))
     ∷ []

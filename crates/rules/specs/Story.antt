@@ -12,7 +12,9 @@ use Rattle.lemmas.specs.Lists.{find, splice}
 use Rattle.lemmas.specs.Tests.{_is_}
 use Rattle.rules.specs.Demands.{bytesOf, fed}
 use Rattle.rules.specs.Drive.{format, Partition, partitionAt}
-use Rattle.rules.specs.Frame.{create, delete, Fields, fields, Operation, operationOf, raise}
+use Rattle.rules.specs.declared.Operation.{Operation}
+use Rattle.rules.specs.declared.Operation.the-variants.{Create, Delete, Raise}
+use Rattle.rules.specs.Frame.{Fields, fields, operationOf}
 use Rattle.rules.specs.Gate.{Call}
 use Rattle.rules.specs.Ledger.{Fed, Held, Ledger, ledger, numberOf, start}
 
@@ -36,7 +38,7 @@ versionOf l p n = versionIn (partitionAt l p) n
 
 -- c is granted and raises or creates object n of partition p
 abbrev pub Giving : Operation → Fields → ℕ → Type 0
-Giving o x n = ((o ≡ raise) × (x .cred .object ≡ n)) ⊎ ((o ≡ create) × (x .req .A ≡ n))
+Giving o x n = ((o ≡ Raise) × (x .cred .object ≡ n)) ⊎ ((size : ℕ) × (o ≡ Create n size))
 
 pub record Gives (p n : ℕ) (c : Fed) : Type 0 where
   pub granted : c .row ≡ 0
@@ -45,7 +47,7 @@ pub record Gives (p n : ℕ) (c : Fed) : Type 0 where
 
 -- c is granted and raises, creates or deletes it
 abbrev pub Renewing : Operation → Fields → ℕ → Type 0
-Renewing o x n = Giving o x n ⊎ ((o ≡ delete) × (x .cred .object ≡ n))
+Renewing o x n = Giving o x n ⊎ ((o ≡ Delete) × (x .cred .object ≡ n))
 
 pub record Renews (p n : ℕ) (c : Fed) : Type 0 where
   pub granted : c .row ≡ 0

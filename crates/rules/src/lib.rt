@@ -28,6 +28,18 @@ pub struct Request {
     pub n: u32,
 }
 
+// An operation with its own arguments (document 01: "A parsed request holds its operation with that operation's own
+// arguments").
+pub enum Operation {
+    Read { offset: u32, length: u32 },
+    Write { offset: u32, length: u32 },
+    Look,
+    Raise,
+    Create { number: u32, size: u32 },
+    Delete,
+    SetKey { target: u32 },
+}
+
 // An object of a partition. Its extent ("area" in document 01) starts `start` bytes after its quarter's start.
 pub struct Object {
     pub number: u32,

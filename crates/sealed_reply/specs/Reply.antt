@@ -11,7 +11,7 @@ use Rattle.digest.specs.Hmac.{hmac}
 use Rattle.rules.specs.declared.Request.{Request}
 use Rattle.rules.specs.Operations.{head, resultLength}
 use Rattle.octets.specs.Numbers.{bytesPut}
-use Rattle.wire.specs.declared.Operation.{Operation}
+use Rattle.rules.specs.declared.Operation.{Operation}
 use Rattle.effect.specs.declared.Site.{Site}
 use Rattle.result.specs.Result.{resultPut}
 

@@ -7,8 +7,8 @@ ghost use Rattle.sealed_reply.specs.Reply.{sealPut, replyPut};
 use digest::mac;
 use digest::mac::Mac;
 use effect::Site;
+use rules::Operation;
 use rules::Request;
-use wire::Operation;
 
 // The digest of what `a` took and the reply's first n bytes goes after these.
 pub fn seal(reply: &mut [u8], a: Mac, n: usize)

@@ -6,8 +6,8 @@ use Rattle.lemmas.specs.Lists.{part}
 use Rattle.digest.specs.Hmac.{hmac}
 use Rattle.rules.specs.Drive.{Keys}
 use Rattle.rules.specs.Operations.{keyPut}
-use Rattle.wire.specs.declared.Operation.{Operation}
-use Rattle.wire.specs.declared.Operation.the-variants.{Read, Write, Look, Raise, Create, Delete, SetKey}
+use Rattle.rules.specs.declared.Operation.{Operation}
+use Rattle.rules.specs.declared.Operation.the-variants.{Read, Write, Look, Raise, Create, Delete, SetKey}
 use Rattle.keyring.specs.Keys.{isSet, placeOf, targetOf, keyPutAt}
 
 -- "New key = HMAC(key in the signing slot, request and seed)"

@@ -6,8 +6,8 @@ use Prim.Native.Nat.{ℕ}
 use lib.ListN.{length}
 use Rattle.digest.specs.Hmac.{hmac}
 use Rattle.digest.specs.Laws.{length-hmac}
-use Rattle.wire.specs.declared.Operation.{Operation}
-use Rattle.wire.specs.declared.Operation.the-variants.{Read, Write, Look, Raise, Create, Delete, SetKey}
+use Rattle.rules.specs.declared.Operation.{Operation}
+use Rattle.rules.specs.declared.Operation.the-variants.{Read, Write, Look, Raise, Create, Delete, SetKey}
 use Rattle.keyring.specs.Keys.{keyAt, keysIn, placeOf}
 use Rattle.keyring.specs.Laws.{key-put, key-some}
 use Rattle.set_key.specs.Keys.{keysPut, keysAfter}

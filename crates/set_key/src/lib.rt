@@ -2,7 +2,7 @@
 ghost use mathlib.Core.Path.{_≡_};
 ghost use Rattle.set_key.specs.Keys.{keysAfter};
 use digest::mac;
-use wire::Operation;
+use rules::Operation;
 
 // The keys after an operation under the key in a slot, as partition `p` has it; `signed` is the request and the seed.
 // Where that key was never set, nothing is written.

@@ -12,8 +12,8 @@ use Rattle.rules.specs.declared.Request.{Request}
 use Rattle.rules.specs.Frame.{requestMagic, fields}
 use Rattle.rules.specs.Rows.{frameRows}
 use Rattle.record_rows.specs.Refusals.{recordRow}
-use Rattle.wire.specs.declared.Operation.{Operation}
-use Rattle.wire.specs.declared.Operation.the-variants.{Read, Write, Look, Raise, Create, Delete, SetKey}
+use Rattle.rules.specs.declared.Operation.{Operation}
+use Rattle.rules.specs.declared.Operation.the-variants.{Read, Write, Look, Raise, Create, Delete, SetKey}
 use Rattle.wire.specs.declared.ParsedRequest.{ParsedRequest}
 use Rattle.wire.specs.declared.Parsed.{Parsed}
 use Rattle.wire.specs.declared.Parsed.the-variants.{Fields, Refused}

@@ -13,7 +13,7 @@ use Rattle.rules.specs.declared.Request.{Request}
 use Rattle.rules.specs.Frame.{credentialMagic, requestMagic, requestStart, credentialAt, requestAt, fields}
 use Rattle.rules.specs.Rows.{row6, outsideCredential, requestFaults, outsideRequest, misfits, frameRows}
 use Rattle.record_rows.specs.Refusals.{recordRows, recordRow}
-use Rattle.wire.specs.declared.Operation.{Operation}
+use Rattle.rules.specs.declared.Operation.{Operation}
 use Rattle.wire.specs.declared.ParsedRequest.{ParsedRequest}
 use Rattle.wire.specs.declared.Parsed.{Parsed}
 use Rattle.wire.specs.declared.Parsed.the-variants.{Fields, Refused}

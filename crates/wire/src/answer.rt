@@ -5,9 +5,9 @@ ghost use Prim.Native.Nat.{_+_, _≤_};
 ghost use lib.ListN.{length};
 ghost use Rattle.rules.specs.Frame.{credentialSize, requestSize, credentialAt, requestAt};
 ghost use Rattle.wire.specs.Parse.{Whole, operationNumber, firstNumber, secondNumber, told, toldOf};
-use crate::Operation;
 use crate::Parsed;
 use crate::ParsedRequest;
+use rules::Operation;
 
 // The credential that stands at place at.
 pub fn credential_at(s: &[u8], at: usize) -> rules::Credential

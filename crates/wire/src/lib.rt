@@ -1,20 +1,10 @@
 // The parse of a frame (document 01, rows 2 to 7): its fields, or the row that refuses it.
 ghost use mathlib.Core.Path.{_≡_};
 ghost use Rattle.wire.specs.Parse.{operationNumber, firstNumber, secondNumber, requestTold, told, rowTold, parseOf};
+use rules::Operation;
 
 mod answer;
 mod reader;
-
-// An operation with its own arguments.
-pub enum Operation {
-    Read { offset: u32, length: u32 },
-    Write { offset: u32, length: u32 },
-    Look,
-    Raise,
-    Create { number: u32, size: u32 },
-    Delete,
-    SetKey { target: u32 },
-}
 
 // A request that no row from 3 to 7 refuses. Its nonce is time and count; n is the data's length.
 pub struct ParsedRequest {

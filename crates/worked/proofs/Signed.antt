@@ -2,7 +2,7 @@
 -- checker with
 -- HMAC left unopened. Used by Worked.antt.
 use mathlib.Core.Path.{_∙_, _≡_, ap, refl, sym}
-use mathlib.Core.Bool.{Bool, cond, false, not, true}
+use mathlib.Core.Bool.{Bool, cond, false, not, true, true≢false}
 use mathlib.Core.List.{[], _++_, _∷_, List, map}
 use Prim.Native.Nat.{_%_, _+_, min, suc, zero, ℕ}
 use native.Mathlib.Nat.{suc-inj, suc-ne-zero}
@@ -22,11 +22,14 @@ use Rattle.rules.specs.declared.Request.{Request}
 use Rattle.rules.specs.BestFit.{bestFit, bestOf, better, free, gaps, next, spot}
 use Rattle.rules.specs.Client.{frameOf}
 use Rattle.rules.specs.Demands.{answer, State, step}
-use Rattle.rules.specs.Drive.{Drive, format, formatRows, quarter, refresh, sameEntry, sound, soundObject, soundPartition, Tables}
-use Rattle.rules.specs.Frame.{covered, create, credentialAt, credentialBytes, delete, entry, Fields, fields, look, memory, Operation, operation, operationOf, raise, read, requestAt, requestBytes, setKey, unknown, write}
-use Rattle.rules.specs.Gate.{Answer, Call, gate, granted, left, refused}
-use Rattle.rules.specs.Operations.{created, credentialKey, deleted, digestOf, driveAfter, extentStart, head, headed, keyIn, keyPut, keySet, mediumAfter, named, newKey, objectOf, placeOf, present, raised, remember, reply, replyLength, result, sealed, signing, startOf, tablesAfter}
-use Rattle.rules.specs.Rows.{driveRows, frameRows, remembered, row1, row10, row11, row12, row13, row14, row15, row16, row17, row18, row19, row20, row21, row22, row8, row9, rows}
+use Rattle.rules.specs.Drive.{Drive, format, formatRows, refresh, sameEntry, sound, soundObject, soundPartition}
+use Rattle.rules.specs.declared.Operation.{Operation}
+use Rattle.rules.specs.declared.Operation.the-variants.{Create, Delete, Look, Raise, Read, SetKey, Write}
+use Rattle.rules.specs.Frame.{covered, credentialAt, credentialBytes, entry, Fields, fields, memory, operation, operationOf, requestAt, requestBytes}
+use Rattle.rules.specs.Scope.{Scope, driveScope}
+use Rattle.rules.specs.Gate.{Answer, Call, gate, granted, afterRefusal, refused, wholeAnswer}
+use Rattle.rules.specs.Operations.{created, credentialKey, deleted, digestOf, extentStart, head, headed, keyIn, keyPut, keySet, named, newKey, objectOf, placeOf, present, perform, raised, remember, reply, replyLength, sealed, signing, startOf}
+use Rattle.rules.specs.Rows.{driveRows, frameRows, row1, row10, row11, row12, row13, row14, row15, row16, row17, row18, row19, row20, row21, row22, row8, row9, rows, scopeRows}
 
 -- ---- the n bytes of a list, one by one: so that its length is seen without its being opened
 unfoldable pub spread : ℕ → List ℕ → List ℕ
@@ -81,16 +84,18 @@ wrong-fails (x ∷ xs) e = rw (ne-eqb ((x + 1) % 256) x (λ k. omega arith)) ref
 abbrev answered : Bool → Row → Row
 answered b r = cond (r .row is 9) (line 9 b) r
 
-unfoldable pub gateWith : Bool → Drive → List ℕ → Call → Answer
+unfoldable pub gateWith : Bool → Drive → List ℕ → Call → Answer Drive
 gateWith b d m c =
     let row = firstRow (map (answered b) (rows d m (c .frame) (c .clock) (c .space))) in
+    let x = fields (c .frame) in
+    let now = refresh (c .clock) d in
     cond (row is 0)
-    (granted (refresh (c .clock) d) m (fields (c .frame)) (c .space))
-    (refused row (left row (c .clock) d) m (c .space))
+    (wholeAnswer (x .cred) now (granted (driveScope now (x .cred)) m x (c .space)))
+    (refused row (afterRefusal row (c .clock) d) m (c .space))
 
 pub gate-with : (b : Bool) (d : Drive) (m : List ℕ) (c : Call)
-    → row9 (refresh (c .clock) d .tables) (fields (c .frame)) ≡ b → gate d m c ≡ gateWith b d m c
-unfolding gate gateWith rows frameRows driveRows
+    → row9 (driveScope (refresh (c .clock) d) (fields (c .frame) .cred)) (fields (c .frame)) ≡ b → gate d m c ≡ gateWith b d m c
+unfolding gate gateWith rows frameRows driveRows scopeRows
 gate-with b d m c e = ap (λ (b : Bool). gateWith b d m c) e
 
 -- ---- lists of calls whose digests are known to be right or wrong
@@ -108,7 +113,7 @@ callOf (signed key c r payload clock room) = record
 callOf (altered key c r payload clock room) = record
     { frame = forged key c r payload; clock = clock; space = replicate room 9 }
 
-unfoldable pub answerWith : State → Move → Answer
+unfoldable pub answerWith : State → Move → Answer Drive
 answerWith s (raw c) = gate (s .drive) (s .medium) c
 answerWith s (signed key c r payload clock room) =
     gateWith false (s .drive) (s .medium) (callOf (signed key c r payload clock room))
@@ -118,10 +123,10 @@ answerWith s (altered key c r payload clock room) =
 -- the digest is right where it is said to be, and wrong where it is said to be
 unfoldable pub Known9 : State → Move → Type 0
 Known9 s (raw c) = Unit {0}
-Known9 s (signed key c r payload clock room) = row9 (refresh clock (s .drive) .tables)
-    (fields (frame key c r payload)) ≡ false
-Known9 s (altered key c r payload clock room) = row9 (refresh clock (s .drive) .tables)
-    (fields (forged key c r payload)) ≡ true
+Known9 s (signed key c r payload clock room) = row9
+    (driveScope (refresh clock (s .drive)) (fields (frame key c r payload) .cred)) (fields (frame key c r payload)) ≡ false
+Known9 s (altered key c r payload clock room) = row9
+    (driveScope (refresh clock (s .drive)) (fields (forged key c r payload) .cred)) (fields (forged key c r payload)) ≡ true
 
 pub answer-with : (s : State) (v : Move) → Known9 s v → answer s (callOf v) ≡ answerWith s v
 unfolding answer answerWith Known9 callOf
@@ -131,7 +136,7 @@ answer-with s (signed key c r payload clock room) k =
 answer-with s (altered key c r payload clock room) k =
     gate-with true (s .drive) (s .medium) (callOf (altered key c r payload clock room)) k
 
-abbrev pub leaves : Answer → State
+abbrev pub leaves : Answer Drive → State
 leaves a = record { drive = a .drive; medium = a .medium }
 
 unfoldable pub AllKnown9 : State → List Move → Type 0
@@ -139,7 +144,7 @@ AllKnown9 s [] = Unit {0}
 AllKnown9 s (v ∷ vs) = Known9 s v × AllKnown9 (leaves (answerWith s v)) vs
 
 -- what the gate says to a list of calls: of each row and length, and of a grant the first sixteen bytes of the reply
-abbrev shows : Answer → List ℕ
+abbrev shows : Answer Drive → List ℕ
 shows a = a .row ∷ a .length ∷ take (min 16 (a .length)) (a .space)
 
 unfoldable pub said : State → List Call → List (List ℕ)
@@ -195,21 +200,29 @@ known-times zero f Has g h s k = tt
 known-times (suc n) f Has g h s k = (g n s k, known-times n f Has g h (leaves (answerWith s (f n))) (h n s k))
 
 -- a call that sets no key leaves the keys
-keys-after : (o : Operation) (q : ℕ) (x : Fields) (t : Tables Object) → (o ≡ setKey → ⊥)
-    → tablesAfter o q x t .keys ≡ t .keys
-unfolding tablesAfter
-keys-after unknown q x t h = refl
-keys-after read q x t h = refl
-keys-after write q x t h = refl
-keys-after look q x t h = refl
-keys-after raise q x t h = refl
-keys-after create q x t h = refl
-keys-after delete q x t h = refl
-keys-after setKey q x t h = absurd (h refl)
+abbrev pub setsAKey : Operation → Bool
+setsAKey (Read a b) = false
+setsAKey (Write a b) = false
+setsAKey Look = false
+setsAKey Raise = false
+setsAKey (Create a b) = false
+setsAKey Delete = false
+setsAKey (SetKey a) = true
 
-pub keys-with : (b : Bool) (d : Drive) (m : List ℕ) (c : Call) → (operationOf (fields (c .frame)) ≡ setKey → ⊥)
+keys-after : (o : Operation) (s : Scope Object) (x : Fields) (m : List ℕ) → setsAKey o ≡ false
+    → perform o s x m .scope .keys ≡ s .keys
+unfolding perform
+keys-after (Read a b) s x m h = refl
+keys-after (Write a b) s x m h = refl
+keys-after Look s x m h = refl
+keys-after Raise s x m h = refl
+keys-after (Create a b) s x m h = refl
+keys-after Delete s x m h = refl
+keys-after (SetKey a) s x m h = absurd (true≢false h)
+
+pub keys-with : (b : Bool) (d : Drive) (m : List ℕ) (c : Call) → setsAKey (operationOf (fields (c .frame))) ≡ false
     → gateWith b d m c .drive .tables .keys ≡ d .tables .keys
-unfolding gateWith granted driveAfter refresh
+unfolding gateWith granted refresh
 keys-with b d m c h = go (row is 0) (row is 1)
   where
     row : ℕ
@@ -218,10 +231,13 @@ keys-with b d m c h = go (row is 0) (row is 1)
     x : Fields
     x = fields (c .frame)
 
+    now : Drive
+    now = refresh (c .clock) d
+
     go : (z o : Bool)
-        → cond z (granted (refresh (c .clock) d) m x (c .space))
-        (refused row (cond o d (refresh (c .clock) d)) m (c .space)) .drive .tables .keys ≡ d .tables .keys
-    go true o = keys-after (operationOf x) (quarter (d .size)) x (refresh (c .clock) d .tables) h
+        → cond z (wholeAnswer (x .cred) now (granted (driveScope now (x .cred)) m x (c .space)))
+        (refused row (cond o d now) m (c .space)) .drive .tables .keys ≡ d .tables .keys
+    go true o = keys-after (operationOf x) (driveScope now (x .cred)) x m h
     go false true = refl
     go false false = refl
 
@@ -230,9 +246,9 @@ unfoldable pub opened : ℕ
 unfolding part splice same every some? pairs keep update find change missing firstRow numberAt digit bigEndian encode
     credentialAt credentialBytes requestAt requestBytes fields covered operation entry memory soundObject
     soundPartition sound sameEntry refresh formatRows format spot free next gaps better bestOf bestFit keyIn
-    signing credentialKey digestOf named objectOf present extentStart placeOf startOf result head headed sealed
-    reply replyLength raised created deleted newKey keyPut keySet tablesAfter mediumAfter driveAfter remember row1 row8 row9
-    row10 row11 remembered row12 row13 row14 row15 row16 row17 row18 row19 row20 row21 row22 frameRows driveRows
-    rows granted gate answer step spread rightDigest frame wrong forged gateWith callOf answerWith Known9
+    signing credentialKey digestOf named objectOf present extentStart placeOf startOf head headed sealed
+    reply replyLength raised created deleted newKey keyPut keySet perform remember row1 row8 row9
+    row10 row11 row12 row13 row14 row15 row16 row17 row18 row19 row20 row21 row22 frameRows driveRows
+    scopeRows rows granted gate answer step spread rightDigest frame wrong forged gateWith callOf answerWith Known9
     AllKnown9 saidWith run times
 opened = 0

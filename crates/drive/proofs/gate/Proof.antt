@@ -11,7 +11,7 @@ use Rattle.lemmas.specs.Lists.{every, some?}
 use Rattle.lemmas.specs.Tests.{_is_, _under_, and-l, and-r}
 use Rattle.rules.specs.declared.Credential.{Credential}
 use Rattle.rules.specs.declared.Entry.{Entry}
-use Rattle.rules.specs.Frame.{fields, memory}
+use Rattle.rules.specs.Frame.{fields, memory, entry}
 use Rattle.rules.specs.Rows.{row1}
 use Rattle.rules.specs.Drive.{largestMedium, quarter, sound, soundPartition, sameEntry, refresh}
 use Rattle.wire.specs.declared.ParsedRequest.{ParsedRequest}
@@ -19,7 +19,6 @@ use Rattle.wire.specs.declared.Parsed.the-variants.{Fields, Refused}
 use Rattle.wire.specs.Parse.{told, parseOf, frameRow, requestTold}
 use Rattle.wire.specs.ParseLaws.{fields-told, refused-told, row-told}
 use Rattle.state.specs.Table.{viewed}
-use Rattle.judge.specs.Judge.{entryOf}
 use Rattle.memory.specs.Memory.{entries}
 use Rattle.drive.specs.declared.Drive.{Drive}
 use Rattle.drive.specs.declared.Answer.{Answer}
@@ -167,7 +166,7 @@ partition-of : (t : tie.After-known-told) → cred t .partition ≡ fields (t .b
 partition-of t = ap Credential.partition (same-fields t .1)
 
 -- the two places in the drive's arrays
-memory-of : (t : tie.After-memory-of) → t .memory-of .result ≡ memory (fields (t .before .before .before .before .before .before .before .before .before .before .before .before .before .before .before .before .before .before .before .before .before .before .before .before .before .before .before .before .before .before .before .args .frame .now))
+memory-of : (t : tie.After-memory-of) → t .memory-of .result ≡ memory (fields (t .before .before .before .before .before .before .before .before .before .before .before .before .before .before .before .before .before .before .before .before .before .before .before .before .before .before .before .before .before .before .before .args .frame .now) .cred)
 unfolding memory
 memory-of t = t .memory-of .ensures ∙ ap (λ (c : Credential). cond (c .slot under 3) (c .partition) 4) (same-fields (t .before) .1)
 
@@ -198,11 +197,11 @@ mem t =
     let d = now (t .before .before .before .before .before .before .before .before .before .before .before .before .before .before .before .before .before .before) in
     getD (memoriesIn (d .lengths) (entries (d .slots) (d .holders) (d .times) (d .counts))) (t .before .before .before .before .before .before .before .before .memory-of .result) []
 
-nonce-is : (t : tie.After-entry-of) → t .entry-of .result ≡ entryOf (cred (t .before .before .before)) (requestTold (req (t .before .before .before)))
-nonce-is t = t .entry-of .ensures ∙ ap (entryOf (cred (t .before .before .before))) (t .before .numbers .ensures)
+nonce-is : (t : tie.After-entry-of) → t .entry-of .result ≡ entry (cred (t .before .before .before)) (requestTold (req (t .before .before .before)))
+nonce-is t = t .entry-of .ensures ∙ ap (entry (cred (t .before .before .before))) (t .before .numbers .ensures)
 
 found : (t : tie.After-is-replayed)
-    → t .is-replayed .result ≡ some? (sameEntry (entryOf (cred (t .before .before .before .before .before .before .before .before .before)) (requestTold (req (t .before .before .before .before .before .before .before .before .before))))) (mem t)
+    → t .is-replayed .result ≡ some? (sameEntry (entry (cred (t .before .before .before .before .before .before .before .before .before)) (requestTold (req (t .before .before .before .before .before .before .before .before .before))))) (mem t)
 found t = t .is-replayed .ensures ∙ ap (λ (e : Entry). some? (sameEntry e) (mem t)) (nonce-is (t .before .before .before .before .before .before))
 
 -- the width of a table, as the code has it

@@ -1,10 +1,10 @@
 use mathlib.Core.Path.{refl}
-use Rattle.judge.specs.Judge.{entryOf}
+use Rattle.rules.specs.Frame.{entry}
 use Rattle.judge.proofs.entry_of.Statement.{statement}
 use Rattle.judge.proofs.entry_of.Tie as tie
 
 returns : tie.Need-returns
-unfolding entryOf
+unfolding entry
 returns c = refl
 
 pub entry-of-spec : {M : Type 1} → statement M

@@ -1,14 +1,13 @@
-use Rattle.lemmas.specs.Rows.{firstRow}
 use Rattle.wire.specs.Parse.{requestTold}
-use Rattle.state.specs.Table.{partitionIn, targetIn}
-use Rattle.judge.specs.Judge.{judgeRows}
+use Rattle.state.specs.Table.{partitionIn}
+use Rattle.judge.specs.Judge.{rows-told}
 use borrow.Author.Needs.{needs}
 use Rattle.judge.proofs.judge.Statement.{statement}
 use Rattle.judge.proofs.judge.Tie as tie
 
 returns : tie.Need-returns
-unfolding firstRow judgeRows requestTold partitionIn targetIn
-returns c =
+unfolding requestTold partitionIn
+returns c = λ s w.
     rw (
       c .time-row .ensures,
       c .before .object-row .ensures,
@@ -17,7 +16,7 @@ returns c =
       c .before .before .before .before .number-at .ensures,
       c .before .before .before .before .before .named .ensures,
       c .before .before .before .before .before .before .numbers .ensures,
-    )
+    ) (rows-told s _ _ _ _ _ _ _ _ w)
 
 pub judge-spec : {M : Type 1} → statement M
 judge-spec =

@@ -5,7 +5,7 @@ use Prim.Native.Nat.{ℕ}
 use borrow.Author.Needs.{needs}
 use Rattle.state.specs.Changes.{Changed}
 use Rattle.state.specs.Steps.{changed-same}
-use Rattle.wire.specs.declared.Operation.{Operation}
+use Rattle.rules.specs.declared.Operation.{Operation}
 use Rattle.partition.specs.Partition.{appliedIn}
 use Rattle.partition.proofs.apply.Statement.{statement}
 use Rattle.partition.proofs.apply.Tie as tie

@@ -10,9 +10,9 @@ use denote.Enum.Declared.{tagOf}
 use types.Run.{OneOf}
 use borrow.Author.Needs.{needs}
 use borrow.Author.Tests.{not-true, not-false}
-use Rattle.wire.specs.declared.Operation.{Operation}
-use Rattle.wire.specs.declared.Operation.the-variants.{Read, Write, Look, Raise, Create, Delete, SetKey}
-use Rattle.wire.proofs.Operation.{the-type}
+use Rattle.rules.specs.declared.Operation.{Operation}
+use Rattle.rules.specs.declared.Operation.the-variants.{Read, Write, Look, Raise, Create, Delete, SetKey}
+use Rattle.rules.proofs.Operation.{the-type}
 use Rattle.lemmas.specs.Lists.{part}
 use Rattle.digest.specs.Hmac.{hmac}
 use Rattle.keyring.specs.Keys.{isSet, placeOf, targetOf, keyPutAt}

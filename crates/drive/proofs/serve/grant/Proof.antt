@@ -10,7 +10,7 @@ use Rattle.partition.specs.Partition.{partitionAfter}
 use Rattle.placing.specs.Placing.{told}
 use Rattle.effect.specs.declared.Site.{Site}
 use Rattle.drive.proofs.Frames.{the-payload}
-use Rattle.drive.proofs.Serving.{medium-g, space-g, length-g, keys-g, partition-g, small-g, four-g}
+use Rattle.drive.proofs.Serving.{medium-g, space-g, length-g, keys-g, partition-g, four-g}
 use borrow.Author.Needs.{needs}
 use Rattle.drive.proofs.serve.grant.Statement.{statement}
 use Rattle.drive.proofs.serve.grant.Tie as tie
@@ -20,7 +20,7 @@ site-of-requires c κs =
     let a = c .before .before .before .before .before .before .args in
     let l = c .before .before .before .before .before .before .pre .memory in
     let g = c .before .before .before .before .before .before .pre .granting in
-    (small-g (a .share) (a .keys .now) (a .table .now) l (a .seen) (a .medium .now) (a .frame .now) (a .reply .now) (a .c) (a .q) (told (a .place)) g, four-g (a .share) (a .keys .now) (a .table .now) l (a .seen) (a .medium .now) (a .frame .now) (a .reply .now) (a .c) (a .q) (told (a .place)) g, g .table)
+    (g .small, four-g (a .share) (a .keys .now) (a .table .now) l (a .seen) (a .medium .now) (a .frame .now) (a .reply .now) (a .c) (a .q) (told (a .place)) g, g .table)
 
 sub-end : tie.Need-sub-end
 sub-end c = let h = c .before .before .before .before .before .before .before .pre .granting .long in search needs

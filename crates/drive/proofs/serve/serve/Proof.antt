@@ -20,10 +20,10 @@ use Rattle.rules.specs.Rows.{driveRows}
 use Rattle.keyring.specs.Keys.{keysIn, isSet, placeOf}
 use Rattle.keyring.specs.Laws.{set-there, key-in-set, key-in-unset}
 use Rattle.state.specs.Table.{heldIn, partitionIn}
-use Rattle.judge.specs.Judge.{placeFor, judgeRows}
+use Rattle.judge.specs.Judge.{placeFor, Told}
 use Rattle.placing.specs.Placing.{told}
 use Rattle.wire.specs.Parse.{requestTold}
-use Rattle.drive.specs.Share.{alone, Ready}
+use Rattle.drive.specs.Share.{sight, Ready}
 use Rattle.drive.specs.Site.{Granting}
 use Rattle.drive.proofs.Frames.{long, the-credential, both-records}
 use Rattle.drive.proofs.Serving.{
@@ -36,7 +36,7 @@ use Rattle.drive.proofs.Serving.{
   refusal-given,
   granted-given,
   room-of,
-  small-size,
+  judge-told,
   placed-is,
   secret-is,
 }
@@ -95,7 +95,7 @@ keyed-of t l w =
 -- the row that the rules give is the one that was judged
 row-of : (t : tie.After-judge) → let a = t .before .before .before .before .before .before .before .before .before .before .before .before .before .before .before .before .before .args in
     (l : List Entry) → Ready (a .share) (a .keys .now) (a .table .now) l (a .medium .now) (a .frame .now) (a .c) (a .q)
-    → firstRow (driveRows (alone (a .share) (a .keys .now) (a .table .now) l) (fields (a .frame .now)) (a .reply .now)) ≡ t .judge .result
+    → firstRow (driveRows (sight (a .share) (a .keys .now) (a .table .now) l) (fields (a .frame .now)) (a .reply .now)) ≡ t .judge .result
 row-of t l w =
     let a = t .before .before .before .before .before .before .before .before .before .before .before .before .before .before .before .before .before .args in
     let E = t .before .before .before .before .before .before .before .before in
@@ -103,8 +103,10 @@ row-of t l w =
     let g = t .before .before .before .before .before .is-signed in
     from10 (a .share) (a .keys .now) (a .table .now) l (a .medium .now) (a .frame .now) (a .reply .now) (a .c) (a .q) w (some s) (found-of E (w .keys)) s refl (g .result) (g .ensures (credentialKey (keysIn (a .keys .now)) (fields (a .frame .now))) (keyed-of (t .before .before .before .before .before .before) l w))
     (not-false (g .result) (t .before .before .before .before .if2 .left))
-    ∙ sym (t .judge .ensures ∙ ap (λ (p : Option ℕ). firstRow (judgeRows (a .share .highwater) (partitionIn (a .table .now)) (a .share .replayed) (a .share .held) (a .c) (requestTold (a .q)) p (length (a .reply .now))))
-    (t .before .place-for .ensures ∙ ap (placeFor (quarter (a .share .size)) (heldIn (a .table .now))) (t .before .before .numbers .ensures)))
+    ∙ sym (t .judge .ensures (sight (a .share) (a .keys .now) (a .table .now) l)
+    (subst (λ (p : Option ℕ). Told (sight (a .share) (a .keys .now) (a .table .now) l) (a .share .highwater) (partitionIn (a .table .now)) (a .share .replayed) (a .share .held) (a .c) (requestTold (a .q)) p)
+    (sym (t .before .place-for .ensures ∙ ap (placeFor (quarter (a .share .size)) (heldIn (a .table .now))) (t .before .before .numbers .ensures)))
+    (judge-told (a .share) (a .keys .now) (a .table .now) l (a .medium .now) (a .frame .now) (a .reply .now) (a .c) (a .q) w)))
 
 returns : tie.Need-returns
 returns c l w =
@@ -145,7 +147,7 @@ cast-place-for c =
     let a = c .before .before .before .before .before .before .before .before .before .before .before .before .before .before .args in
     let l = c .before .before .before .before .before .before .before .before .before .before .before .before .before .before .pre .memory in
     let w = c .before .before .before .before .before .before .before .before .before .before .before .before .before .before .pre .ready in
-    let h = small-size (a .share) (a .keys .now) (a .table .now) l (a .medium .now) (a .frame .now) (a .reply .now) (a .c) (a .q) w in
+    let h = w .small in
     search needs
 
 returns-3 : tie.Need-returns-3
@@ -163,6 +165,7 @@ granting t l w =
     record {
       parsed = w .parsed;
       long = long (a .frame .now) (zero-row (a .share) (a .keys .now) (a .table .now) l (a .medium .now) (a .frame .now) (a .reply .now) (a .c) (a .q) w);
+      small = w .small;
       room = room-of (a .share) (a .keys .now) (a .table .now) l (a .medium .now) (a .frame .now) (a .reply .now) (a .c) (a .q) w (row-of (t .before) l w ∙ t .if3 .left);
       keyed = keyed-of (t .before .before .before .before .before .before .before) l w;
       set = set-is (a .share) (a .keys .now) (a .table .now) l (a .medium .now) (a .frame .now) (a .reply .now) (a .c) (a .q) w (some (secret E)) (found-of E (w .keys)) (secret E) refl;
