@@ -1,5 +1,5 @@
 -- Demand 2 over the code's own contracts: what `build` wrote, `wire::parse` reads as the same fields. From `BuildMet`
--- and `parseOf` alone. The reply's way back: `reply-accepted` (reply_check).
+-- and `frameAnswer` alone. The reply's way back: `reply-accepted` (reply_check).
 use mathlib.Core.Path.{_∙_, _≡_, ap, refl, sym}
 use mathlib.Core.Bool.{Bool, cond, false, true}
 use mathlib.Core.List.{List}
@@ -7,12 +7,12 @@ use Prim.Native.Nat.{_+_, ℕ}
 use lib.ListN.{length, take}
 use borrow.Author.Tests.{eqb-true}
 use Rattle.lemmas.specs.Lists.{splice}
-use Rattle.lemmas.specs.Rows.{firstRow}
+use Rattle.lemmas.specs.RowTable.{firstRow}
 use Rattle.lemmas.specs.Tests.{_is_}
 use Rattle.rules.specs.Client.{build, buildRows, frameOf}
 use Rattle.rules.specs.Frame.{credentialAt, requestAt}
 use Rattle.rules.proofs.RoundTrip.{reads-back}
-use Rattle.wire.specs.Parse.{answer, fieldsOf, frameRow, parseOf}
+use Rattle.wire.specs.Parse.{answerBy, fieldsOf, frameRow, frameAnswer}
 use Rattle.client.specs.declared.Built.{Built}
 use Rattle.client.specs.Met.{BuildMet}
 use Rattle.rules.specs.Client as rules
@@ -38,9 +38,9 @@ module _ (a b p k s : List ℕ) (r : Built) (after : List ℕ) (m : BuildMet a b
       ∙ reads-back a b p k s accepted .frame
 
   -- the fields that the parse tells are those of the records
-  pub built-parsed : parseOf (take (r .length) after) ≡ fieldsOf (credentialAt a 0) (requestAt b 0)
-  unfolding parseOf frameRow answer
+  pub built-parsed : frameAnswer (take (r .length) after) ≡ fieldsOf (credentialAt a 0) (requestAt b 0)
+  unfolding frameAnswer frameRow answerBy
   built-parsed =
       let t = reads-back a b p k s accepted in
-      ap parseOf wrote
+      ap frameAnswer wrote
       ∙ rw (t .accepted) (λ i. fieldsOf (t .fields i .cred) (t .fields i .req))

@@ -1,4 +1,4 @@
 -- What issuer and builder promise, and what their rows say of lengths alone.
 pub mod Met
-pub mod Rows
-pub mod Laws
+pub mod ClientRows
+pub mod ClientLaws

@@ -6,7 +6,7 @@ ghost use lib.ListN.{length};
 ghost use Rattle.lemmas.specs.Lists.{splice};
 ghost use Rattle.digest.specs.Hmac.{hmac};
 ghost use Rattle.rules.specs.Frame.{covered};
-ghost use Rattle.client.specs.Rows.{issueRow, lacksRoom, buildRow};
+ghost use Rattle.client.specs.ClientRows.{issueRow, lacksRoom, buildRow};
 use digest::mac;
 use lemmas::pick;
 

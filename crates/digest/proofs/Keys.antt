@@ -12,7 +12,7 @@ use Rattle.lemmas.specs.Fill.{splice-replicate}
 use Rattle.octets.specs.Numbers.{bytesPut}
 use Rattle.sha256_block.specs.Sha256.{sha256}
 use Rattle.digest.specs.Hmac.{keyBlock, xored}
-use Rattle.digest.specs.Laws.{length-sha256}
+use Rattle.digest.specs.DigestLaws.{length-sha256}
 
 -- one byte more
 pub xored-step : (p k : List ℕ) (c i : ℕ) → i < length p → i < length k → take i p ≡ xored c (take i k)

@@ -4,7 +4,7 @@ use mathlib.Core.List.{List, [], _∷_}
 use Prim.Native.Nat.{ℕ, zero, suc}
 use lib.ListN.{length, replicate}
 use Rattle.lemmas.specs.Tests.{_over_}
-use Rattle.lemmas.specs.Rows.{Row, line, firstRow}
+use Rattle.lemmas.specs.RowTable.{Row, line, firstRow}
 use Rattle.digest.specs.declared.Digest.{Digest}
 use Rattle.sha256_block.specs.Sha256.{sha256}
 use Rattle.digest.specs.Hmac.{hmac}

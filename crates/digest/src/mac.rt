@@ -3,7 +3,7 @@ ghost use mathlib.Core.Path.{_≡_};
 ghost use mathlib.Core.List.{List, [], _++_};
 ghost use Prim.Native.Nat.{ℕ};
 ghost use Rattle.digest.specs.Hmac as Rfc;
-ghost use Rattle.digest.specs.Stream.{Keyed};
+ghost use Rattle.digest.specs.Keyed.{Keyed};
 use sha256_stream::Hash;
 
 // Plain data: `inner` has taken the key with ipad and then the message, `outer` the key with opad.

@@ -10,48 +10,48 @@ use Rattle.rules.specs.Gate.{Call}
 use Rattle.rules.specs.Ledger.{Fed}
 use Rattle.drive.specs.declared.Formatted.{Formatted}
 use Rattle.drive.specs.Met.{FormatMet}
-use Rattle.drive.specs.Chain.{after, Chain, Done, fedBy, Left, leftBy, Met, seen}
+use Rattle.drive.specs.Chain.{after, Chain, CallMade, fedBy, DriveState, leftByCall, CallMet, viewedState}
 
 -- the calls that were made
-abbrev pub callsOf : List Done → List Call
-callsOf cs = map Done.call cs
+abbrev pub callsOf : List CallMade → List Call
+callsOf cs = map CallMade.call cs
 
 -- one call
-step-met : (s : Left) (c : Done) → Met s c → step (seen s) (c .call) ≡ seen (leftBy c)
+step-met : (s : DriveState) (c : CallMade) → CallMet s c → step (viewedState s) (c .call) ≡ viewedState (leftByCall c)
 unfolding step answer
 step-met s c m = λ i. record { drive = sym (m .drive) i; medium = sym (m .medium) i }
 
-pub row-met : (s : Left) (c : Done) → Met s c → answer (seen s) (c .call) .row ≡ c .answer .row
+pub row-met : (s : DriveState) (c : CallMade) → CallMet s c → answer (viewedState s) (c .call) .row ≡ c .answer .row
 unfolding answer
 row-met s c m = sym (m .row)
 
-pub space-met : (s : Left) (c : Done) → Met s c → answer (seen s) (c .call) .space ≡ c .space
+pub space-met : (s : DriveState) (c : CallMade) → CallMet s c → answer (viewedState s) (c .call) .space ≡ c .space
 unfolding answer
 space-met s c m = sym (m .space)
 
 -- all: drive and medium after them, and what they feed the ledger
-pub chain-after : (s : Left) (before later : List Done) → Chain s (before ++ later)
-    → rules.after (seen s) (callsOf before) ≡ seen (after s before)
+pub chain-after : (s : DriveState) (before later : List CallMade) → Chain s (before ++ later)
+    → rules.after (viewedState s) (callsOf before) ≡ viewedState (after s before)
 unfolding rules.after after Chain
 chain-after s [] later k = refl
 chain-after s (c ∷ cs) later k =
     ap (λ (t : rules.State). rules.after t (callsOf cs)) (step-met s c (k .0))
-    ∙ chain-after (leftBy c) cs later (k .1)
+    ∙ chain-after (leftByCall c) cs later (k .1)
 
-pub chain-fed : (s : Left) (before later : List Done) → Chain s (before ++ later)
-    → fed (seen s) (callsOf before) ≡ map fedBy before
+pub chain-fed : (s : DriveState) (before later : List CallMade) → Chain s (before ++ later)
+    → fed (viewedState s) (callsOf before) ≡ map fedBy before
 unfolding fed Chain
 chain-fed s [] later k = refl
 chain-fed s (c ∷ cs) later k =
     (λ i. record { frame = c .call .frame; clock = c .call .clock; row = row-met s c (k .0) i }
     ∷ fed (step-met s c (k .0) i) (callsOf cs))
-    ∙ ap (λ (l : List Fed). fedBy c ∷ l) (chain-fed (leftBy c) cs later (k .1))
+    ∙ ap (λ (l : List Fed). fedBy c ∷ l) (chain-fed (leftByCall c) cs later (k .1))
 
 -- and the rest of a chain is one
-pub chain-rest : (s : Left) (before later : List Done) → Chain s (before ++ later) → Chain (after s before) later
+pub chain-rest : (s : DriveState) (before later : List CallMade) → Chain s (before ++ later) → Chain (after s before) later
 unfolding after Chain
 chain-rest s [] later k = k
-chain-rest s (c ∷ cs) later k = chain-rest (leftBy c) cs later (k .1)
+chain-rest s (c ∷ cs) later k = chain-rest (leftByCall c) cs later (k .1)
 
 -- drive and medium of a format
 pub formatted : (medium : List ℕ) (F : ℕ) (master key : List ℕ) (r : Formatted) (zeroed : List ℕ)
@@ -59,5 +59,5 @@ pub formatted : (medium : List ℕ) (F : ℕ) (master key : List ℕ) (r : Forma
     → _≡_ {A = rules.State} (record {
       drive = format medium F master key .drive;
       medium = format medium F master key .medium;
-    }) (seen (record { drive = r .drive; medium = zeroed }))
+    }) (viewedState (record { drive = r .drive; medium = zeroed }))
 formatted medium F master key r zeroed m = λ i. record { drive = sym (m .drive) i; medium = sym (m .medium) i }

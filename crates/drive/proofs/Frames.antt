@@ -9,8 +9,8 @@ use lib.Seq.{take-add, drop-drop}
 use borrow.Author.Tests.{eqb-true, not-false}
 use Rattle.lemmas.specs.Tests.{_is_, or-r}
 use Rattle.lemmas.specs.Lists.{every, part}
-use Rattle.lemmas.specs.Rows.{applies, none-applies}
-use Rattle.rules.specs.Frame.{fields, memory}
+use Rattle.lemmas.specs.RowTable.{applies, none-applies}
+use Rattle.rules.specs.Frame.{fields, memoryIndex}
 use Rattle.rules.specs.Rows.{row4, row5, frameRows}
 use Rattle.rules.proofs.Clear.{low-partition, low-memory}
 use Rattle.wire.specs.Parse.{frameRow}
@@ -36,7 +36,7 @@ module _ (f : List ℕ) (z : frameRow f ≡ 0) where
   pub in-four : fields f .cred .partition < 4
   in-four = low-partition (fields f) clear4
 
-  pub in-five : memory (fields f .cred) < 5
+  pub in-five : memoryIndex (fields f .cred) < 5
   in-five = low-memory (fields f) clear4
 
 -- ---- the parts

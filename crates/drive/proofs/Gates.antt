@@ -8,7 +8,7 @@ use lib.ListN.{length}
 use borrow.Author.Tests.{eqb-true, eqb-false}
 use Rattle.lemmas.specs.Tests.{_is_, _isnt_}
 use Rattle.lemmas.specs.Lists.{every}
-use Rattle.lemmas.specs.Rows.{Row, line, firstRow, row-here, row-isnt}
+use Rattle.lemmas.specs.RowTable.{Row, line, firstRow, row-here, row-isnt}
 use Rattle.rules.specs.Frame.{Fields, fields}
 use Rattle.rules.specs.Drive as rules
 use Rattle.rules.specs.Drive.{refresh, sound}
@@ -23,9 +23,9 @@ use Rattle.wire.specs.Parse.{frameRow}
 use Rattle.drive.specs.declared.Drive.{Drive}
 use Rattle.drive.specs.declared.Answer.{Answer}
 use Rattle.drive.specs.View.{view}
-use Rattle.drive.specs.Share.{scopeAnswer}
+use Rattle.drive.specs.Admission.{scopeAnswer}
 use Rattle.drive.specs.Met.{callOf, GateMet}
-use Rattle.drive.proofs.Rows.{past-frame, by-frame}
+use Rattle.drive.proofs.RowsPassed.{past-frame, by-frame}
 use Rattle.drive.proofs.Whole.{restored}
 
 -- ---- the rules' answer
@@ -52,10 +52,10 @@ module _ (d : rules.Drive) (m f : List ℕ) (clock : ℕ) (space : List ℕ) whe
         ∙ ap (λ (n : ℕ). refused n (refresh clock d) m space) r
 
     -- row 8 and on
-    pub gate-admitted : frameRow f ≡ 0 → gate d m c ≡ wholeAnswer (fields f .cred) (refresh clock d)
+    pub gate-scope-answer : frameRow f ≡ 0 → gate d m c ≡ wholeAnswer (fields f .cred) (refresh clock d)
         (scopeAnswer (driveScope (refresh clock d) (fields f .cred)) m (fields f) space)
     unfolding scopeAnswer
-    gate-admitted z = go (firstRow later is 0) refl
+    gate-scope-answer z = go (firstRow later is 0) refl
       where
         e : rules.Drive
         e = refresh clock d
@@ -88,17 +88,17 @@ module _ (d : Scope Object) (m : List ℕ) (x : Fields) (space : List ℕ) where
   abbrev lowest : ℕ
   lowest = firstRow (driveRows d x space)
 
-  pub admitted-zero : scopeAnswer d m x space .row ≡ 0 → lowest ≡ 0
+  pub scope-answer-zero : scopeAnswer d m x space .row ≡ 0 → lowest ≡ 0
   unfolding scopeAnswer
-  admitted-zero e = go (lowest is 0) refl e
+  scope-answer-zero e = go (lowest is 0) refl e
     where
       go : (b : Bool) → (lowest is 0) ≡ b → cond b (granted d m x space) (refused lowest d m space) .row ≡ 0 → lowest ≡ 0
       go true h k = eqb-true lowest 0 h
       go false h k = k
 
-  pub admitted-refused : (scopeAnswer d m x space .row ≡ 0 → ⊥) → scopeAnswer d m x space .drive ≡ d
+  pub scope-answer-refused : (scopeAnswer d m x space .row ≡ 0 → ⊥) → scopeAnswer d m x space .drive ≡ d
   unfolding scopeAnswer granted
-  admitted-refused z = go (lowest is 0) z
+  scope-answer-refused z = go (lowest is 0) z
     where
       go : (b : Bool) → (cond b (granted d m x space) (refused lowest d m space) .row ≡ 0 → ⊥)
           → cond b (granted d m x space) (refused lowest d m space) .drive ≡ d

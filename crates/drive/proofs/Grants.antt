@@ -14,20 +14,20 @@ use Rattle.lemmas.specs.Parts.{length-part, length-splice, splice-front}
 use Rattle.lemmas.specs.Layout.{splice-after-size}
 use Rattle.lemmas.specs.BigEndian.{bigEndian, length-bigEndian}
 use Rattle.digest.specs.Hmac.{hmac}
-use Rattle.digest.specs.Laws.{length-hmac}
+use Rattle.digest.specs.DigestLaws.{length-hmac}
 use Rattle.rules.specs.declared.Request.{Request}
 use Rattle.rules.specs.declared.Object.{Object}
 use Rattle.rules.specs.Frame.{Fields, fields, operation, operationOf}
 use Rattle.rules.specs.Drive.{Partition, quarter}
 use Rattle.rules.specs.Scope.{Scope}
 use Rattle.rules.specs.Operations.{
-  named,
+  namedObject,
   objectOf,
-  present,
+  presentVersion,
   quarterStart,
   extentStart,
-  placeOf,
-  startOf,
+  placement,
+  placementStart,
   resultLength,
   replyLength,
   head,
@@ -43,26 +43,26 @@ use Rattle.rules.specs.Operations.{
   deleted,
   perform,
 }
-use Rattle.rules.specs.Rows.{moves, gives}
+use Rattle.rules.specs.Rows.{isTransfer, givesVersion}
 use Rattle.rules.proofs.Clear.{asks-for}
 use Rattle.rules.proofs.Shown.{result-length}
 use Rattle.rules.specs.declared.Operation.{Operation}
 use Rattle.rules.specs.declared.Operation.the-variants.{Read, Write, Look, Raise, Create, Delete, SetKey}
 use Rattle.wire.specs.declared.ParsedRequest.{ParsedRequest}
-use Rattle.wire.specs.Parse.{operationNumber, firstNumber, secondNumber, requestTold}
+use Rattle.wire.specs.Parse.{operationNumber, firstNumber, secondNumber, numbersOf}
 use Rattle.octets.specs.Numbers.{numberPut}
-use Rattle.effect.specs.declared.Site.{Site}
-use Rattle.effect.specs.Effect.{nextOf, objectFrom, mediumPut}
+use Rattle.effect.specs.declared.GrantContext.{GrantContext}
+use Rattle.effect.specs.Effect.{nextVersionOf, objectStart, mediumAfter}
 use Rattle.result.specs.Result.{resultPut}
 use Rattle.set_key.specs.Keys.{keysPut}
 use Rattle.sealed_reply.specs.Reply.{sealPut, resultReply, replyPut}
 use Rattle.partition.specs.Partition.{raisedTo, createdTo, partitionAfter}
-use Rattle.drive.specs.Site.{siteOf, Room}
+use Rattle.drive.specs.Grant.{grantContext, GrantFits}
 
 -- the operation of a parsed request's numbers is its own
-told-operation : (q : ParsedRequest) → operation (requestTold q) ≡ q .operation
-unfolding operation requestTold
-told-operation q = go (q .operation)
+numbers-operation : (q : ParsedRequest) → operation (numbersOf q) ≡ q .operation
+unfolding operation numbersOf
+numbers-operation q = go (q .operation)
   where
     go : (o : Operation) → getD (Look ∷ Read (firstNumber o) (secondNumber o) ∷ Write (firstNumber o) (secondNumber o)
         ∷ Look ∷ Raise ∷ Create (firstNumber o) (secondNumber o) ∷ Delete ∷ SetKey (firstNumber o) ∷ [])
@@ -81,32 +81,32 @@ unfolding splice
 splice-none s = take-append-drop 8 s
 
 module _ (v : Scope Object) (M : ℕ) (q-is : v .quarter ≡ quarter M) (m f space : List ℕ) (q : ParsedRequest)
-    (e : requestTold q ≡ fields f .req) (w : Room v m (fields f) space) (start : Option ℕ)
-    (placed : start ≡ cond (fields f .req .operation isnt 5) none (placeOf v (fields f .req .B))) where
+    (e : numbersOf q ≡ fields f .req) (w : GrantFits v m (fields f) space) (start : Option ℕ)
+    (placed : start ≡ cond (fields f .req .operation isnt 5) none (placement v (fields f .req .B))) where
   abbrev x : Fields
   x = fields f
 
   abbrev P : Partition Object
   P = v .partition
 
-  abbrev s : Site
-  s = siteOf M P (x .cred) start
+  abbrev s : GrantContext
+  s = grantContext M P (x .cred) start
 
   -- the request's numbers are the operation's
   number-is : x .req .operation ≡ operationNumber (q .operation)
-  unfolding requestTold
+  unfolding numbersOf
   number-is = sym (ap Request.operation e)
 
   first-is : x .req .A ≡ firstNumber (q .operation)
-  unfolding requestTold
+  unfolding numbersOf
   first-is = sym (ap Request.A e)
 
   second-is : x .req .B ≡ secondNumber (q .operation)
-  unfolding requestTold
+  unfolding numbersOf
   second-is = sym (ap Request.B e)
 
   pub name-is : operationOf x ≡ q .operation
-  name-is = ap operation (sym e) ∙ told-operation q
+  name-is = ap operation (sym e) ∙ numbers-operation q
 
   -- the operation is o, and carries the request's numbers
   pub record Is (o : Operation) : Type 0 where
@@ -118,11 +118,11 @@ module _ (v : Scope Object) (M : ℕ) (q-is : v .quarter ≡ quarter M) (m f spa
   asked = record { number = number-is; first = first-is; second = second-is }
 
   -- ---- the medium
-  medium-by : (o : Operation) → Is o → operationOf x ≡ o → mediumPut o s (x .payload) m ≡ perform o v x m .medium
-  unfolding perform siteOf extentStart objectOf named startOf
+  medium-by : (o : Operation) → Is o → operationOf x ≡ o → mediumAfter o s (x .payload) m ≡ perform o v x m .medium
+  unfolding perform grantContext extentStart objectOf namedObject placementStart
   medium-by (Read a b) i n = refl
   medium-by (Write a b) i n =
-      let mv : moves (x .req) ≡ true = rw (i .number) refl in
+      let mv : isTransfer (x .req) ≡ true = rw (i .number) refl in
       let l : length (x .payload) ≡ b = w .payload a b n in
       rw (
         ← q-is,
@@ -132,17 +132,17 @@ module _ (v : Scope Object) (M : ℕ) (q-is : v .quarter ≡ quarter M) (m f spa
   medium-by Look i n = refl
   medium-by Raise i n = refl
   medium-by (Create number size) i n =
-      let p : start ≡ placeOf v size = placed ∙ rw (i .number, i .second) refl in
-      rw (← q-is, p, le-leb (quarterStart v (x .cred) + startOf v size + size) (length m) (w .cleared number size n)) refl
+      let p : start ≡ placement v size = placed ∙ rw (i .number, i .second) refl in
+      rw (← q-is, p, le-leb (quarterStart v (x .cred) + placementStart v size + size) (length m) (w .cleared number size n)) refl
   medium-by Delete i n = refl
   medium-by (SetKey target) i n = refl
 
-  pub medium-is : mediumPut (q .operation) s (x .payload) m ≡ perform (operationOf x) v x m .medium
+  pub medium-is : mediumAfter (q .operation) s (x .payload) m ≡ perform (operationOf x) v x m .medium
   medium-is = medium-by (q .operation) asked name-is ∙ ap (λ (o : Operation). perform o v x m .medium) (sym name-is)
 
   -- ---- the result
   -- the next version is one more: row 21 refused the last
-  next-is : gives (x .req) ≡ true → nextOf (P .last) ≡ P .last + 1
+  next-is : givesVersion (x .req) ≡ true → nextVersionOf (P .last) ≡ P .last + 1
   next-is h = rw (ne-eqb (P .last) 4294967295 (w .last h)) refl
 
   put-number : (r : List ℕ) (i v : ℕ) → i + 4 ≤ length r → numberPut r i 4 v ≡ splice r i (bigEndian 4 v)
@@ -150,9 +150,9 @@ module _ (v : Scope Object) (M : ℕ) (q-is : v .quarter ≡ quarter M) (m f spa
 
   result-by : (o : Operation) → Is o → (r : List ℕ) → 8 + resultLength (x .req) ≤ length r
       → resultPut o s m r ≡ splice r 8 (perform o v x m .result)
-  unfolding perform siteOf extentStart objectOf named present
+  unfolding perform grantContext extentStart objectOf namedObject presentVersion
   result-by (Read a b) i r h =
-      let mv : moves (x .req) ≡ true = rw (i .number) refl in
+      let mv : isTransfer (x .req) ≡ true = rw (i .number) refl in
       let n : resultLength (x .req) ≡ x .req .B = rw (i .number) refl in
       rw (
         ← q-is,
@@ -162,22 +162,22 @@ module _ (v : Scope Object) (M : ℕ) (q-is : v .quarter ≡ quarter M) (m f spa
   result-by (Write a b) i r h = sym (splice-none r)
   result-by Look i r h =
       let n : resultLength (x .req) ≡ 8 = rw (i .number) refl in
-      let a : List ℕ = bigEndian 4 (s .told) in
+      let a : List ℕ = bigEndian 4 (s .looksize) in
       let b : List ℕ = bigEndian 4 (s .version) in
-      let la : length a ≡ 4 = length-bigEndian 4 (s .told) in
+      let la : length a ≡ 4 = length-bigEndian 4 (s .looksize) in
       let lb : length b ≡ 4 = length-bigEndian 4 (s .version) in
       let l : length (splice r 8 a) ≡ length r = length-splice r a 8 (omega arith) in
-      ap (λ (l : List ℕ). numberPut l 12 4 (s .version)) (put-number r 8 (s .told) (omega arith))
+      ap (λ (l : List ℕ). numberPut l 12 4 (s .version)) (put-number r 8 (s .looksize) (omega arith))
       ∙ put-number (splice r 8 a) 12 (s .version) (omega arith)
       ∙ splice-after-size r a b 8 12 (omega arith) (omega arith)
       ∙ rw (← q-is) refl
   result-by Raise i r h =
       let n : resultLength (x .req) ≡ 4 = rw (i .number) refl in
-      put-number r 8 (nextOf (P .last)) (omega arith)
+      put-number r 8 (nextVersionOf (P .last)) (omega arith)
       ∙ ap (λ (v : ℕ). splice r 8 (bigEndian 4 v)) (next-is (rw (i .number) refl))
   result-by (Create number size) i r h =
       let n : resultLength (x .req) ≡ 4 = rw (i .number) refl in
-      put-number r 8 (nextOf (P .last)) (omega arith)
+      put-number r 8 (nextVersionOf (P .last)) (omega arith)
       ∙ ap (λ (v : ℕ). splice r 8 (bigEndian 4 v)) (next-is (rw (i .number) refl))
   result-by Delete i r h = sym (splice-none r)
   result-by (SetKey target) i r h = sym (splice-none r)
@@ -203,7 +203,7 @@ module _ (v : Scope Object) (M : ℕ) (q-is : v .quarter ≡ quarter M) (m f spa
       let h = in-seven (q .operation) in
       result-length v x m (omega (arith, number-is, h .0)) (omega (arith, number-is, h .1)) (λ a b o.
       let k = asks-for (x .req) (Read a b) o in
-      let mv : moves (x .req) ≡ true = rw (k .0) refl in
+      let mv : isTransfer (x .req) ≡ true = rw (k .0) refl in
       length-part m (extentStart v (x .cred) + a) b (omega (arith, w .extent mv, w .inside mv, k .1, k .2)))
 
   -- ---- the reply
@@ -254,13 +254,13 @@ module _ (v : Scope Object) (M : ℕ) (q-is : v .quarter ≡ quarter M) (m f spa
       (splice-after-size space (H ++ res) D 0 n (omega arith)
       (omega (arith, length-hmac key (x .credential ++ (x .request ++ (H ++ res))))))
 
-  pub reply-is : replyPut key (x .credential ++ x .request) (requestTold q) (q .operation) s m space
+  pub reply-is : replyPut key (x .credential ++ x .request) (numbersOf q) (q .operation) s m space
       ≡ splice space 0 (reply (v .keys) x res)
   unfolding reply sealed
   reply-is =
       rw (e, front-is, headed-is) (reply-by (x .req .level is 2) refl)
 
-  pub reply-long : replyLength (requestTold q) ≡ replyLength (x .req)
+  pub reply-long : replyLength (numbersOf q) ≡ replyLength (x .req)
   reply-long = ap replyLength e
 
   -- ---- the keys
@@ -282,13 +282,13 @@ module _ (v : Scope Object) (M : ℕ) (q-is : v .quarter ≡ quarter M) (m f spa
   -- ---- the partition
   partition-by : (o : Operation) → Is o → operationOf x ≡ o
       → partitionAfter o (x .cred .object) (s .next) (s .place) P ≡ perform o v x m .scope .partition
-  unfolding perform siteOf startOf raised raisedTo created createdTo
+  unfolding perform grantContext placementStart raised raisedTo created createdTo
   partition-by (Read a b) i n = refl
   partition-by (Write a b) i n = refl
   partition-by Look i n = refl
   partition-by Raise i n = ap (λ (u : ℕ). raisedTo u (x .cred .object) P) (next-is (rw (i .number) refl))
   partition-by (Create number size) i n =
-      let p : start ≡ placeOf v size = placed ∙ rw (i .number, i .second) refl in
+      let p : start ≡ placement v size = placed ∙ rw (i .number, i .second) refl in
       rw (p, next-is (rw (i .number) refl), lt-ltb (length (P .objects)) 16 (w .objects number size n)) refl
   partition-by Delete i n = refl
   partition-by (SetKey target) i n = refl

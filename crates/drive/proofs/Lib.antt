@@ -4,13 +4,13 @@ mod Turned
 mod Memories
 mod Tables
 pub mod Frames
-pub mod Rows
+pub mod RowsPassed
 pub mod Grants
-pub mod Serving
+pub mod Admitting
 pub mod Whole
 pub mod Gates
-pub mod Shares
+pub mod Scopes
 pub mod Demand1
 pub mod Calls
 pub mod Demand3
-pub mod Story
+pub mod ChainStory

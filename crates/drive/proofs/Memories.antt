@@ -28,9 +28,9 @@ use Rattle.lemmas.specs.Lists.{every, keep, update}
 use Rattle.lemmas.specs.ListLaws.{every-nth, length-keep}
 use Rattle.rules.specs.declared.Entry.{Entry}
 use Rattle.rules.specs.Drive.{largestMedium, lives, mostEntries, quarter, refresh, sound, soundPartition}
-use Rattle.memory.specs.Memory.{entries, noEntry, Purged}
+use Rattle.memory.specs.Memory.{entriesIn, noEntry, Purged}
 use Rattle.state.specs.Padded.{padded, padded-is, padded-length}
-use Rattle.state.specs.Table.{viewed}
+use Rattle.state.specs.Table.{partitionView}
 use Rattle.memory.specs.Entries.{
   entries-length,
   entries-set,
@@ -43,7 +43,7 @@ use Rattle.memory.specs.Entries.{
   purged-counts,
 }
 use Rattle.drive.specs.declared.Drive.{Drive}
-use Rattle.drive.specs.View.{view, tablesIn, memoriesIn, short, Placed}
+use Rattle.drive.specs.View.{view, tablesIn, memoriesIn, entriesFit, MemoriesFit}
 use Rattle.drive.proofs.Turned.{every-set}
 
 -- the 64 places of one memory
@@ -72,7 +72,7 @@ memory-at (n ∷ ns) l (suc k) h s =
 
 -- row 1's test of the memories
 pub memories-short : (ns : List ℕ) (l : List Entry) → 64 * length ns ≤ length l
-    → every (λ (m : List Entry). leb (length m) mostEntries) (memoriesIn ns l) ≡ every short ns
+    → every (λ (m : List Entry). leb (length m) mostEntries) (memoriesIn ns l) ≡ every entriesFit ns
 unfolding memoriesIn every
 memories-short [] l h = refl
 memories-short (n ∷ ns) l h =
@@ -136,13 +136,13 @@ memory-dropped (m ∷ ns) l (suc k) n r p h e s t w =
     (memory-dropped ns (drop mostEntries l) k n r p (le-of-suc-le-suc h) e s t (omega arith)))
 
 -- no memory has over 64 entries
-pub short-at : (ns : List ℕ) (k : ℕ) → every short ns ≡ true → getD ns k 0 ≤ mostEntries
-short-at ns k h = leb-true (getD ns k 0) mostEntries (every-nth short ns k 0 refl h)
+pub short-at : (ns : List ℕ) (k : ℕ) → every entriesFit ns ≡ true → getD ns k 0 ≤ mostEntries
+short-at ns k h = leb-true (getD ns k 0) mostEntries (every-nth entriesFit ns k 0 refl h)
 
 -- ---- the arrays of five memories
-module _ (ns s h t n : List ℕ) (w : Placed ns s h t n) where
+module _ (ns s h t n : List ℕ) (w : MemoriesFit ns s h t n) where
   abbrev all : List Entry
-  all = entries s h t n
+  all = entriesIn s h t n
 
   pub places : length all ≡ 320
   places = entries-length s h t n (w .holders ∙ sym (w .slots)) (w .times ∙ sym (w .slots)) (w .counts ∙ sym (w .slots))
@@ -165,7 +165,7 @@ module _ (ns s h t n : List ℕ) (w : Placed ns s h t n) where
 
     -- one entry more
     pub joined-at : (x : Entry) → getD ns k 0 < mostEntries
-        → memoriesIn (set ns k (getD ns k 0 + 1)) (entries (set s (64 * k + getD ns k 0) (x .slot))
+        → memoriesIn (set ns k (getD ns k 0 + 1)) (entriesIn (set s (64 * k + getD ns k 0) (x .slot))
         (set h (64 * k + getD ns k 0) (x .holder)) (set t (64 * k + getD ns k 0) (x .time))
         (set n (64 * k + getD ns k 0) (x .count)))
         ≡ update k (λ (old : List Entry). old ++ (x ∷ [])) (memoriesIn ns all)
@@ -176,7 +176,7 @@ module _ (ns s h t n : List ℕ) (w : Placed ns s h t n) where
     -- the part of each array that memory k has
     module _ (size : ℕ) (whole : size ≡ getD ns k 0) where
       abbrev part : List Entry
-      part = entries (midOf (64 * k) size s) (midOf (64 * k) size h) (midOf (64 * k) size t) (midOf (64 * k) size n)
+      part = entriesIn (midOf (64 * k) size s) (midOf (64 * k) size h) (midOf (64 * k) size t) (midOf (64 * k) size n)
 
       part-is : part ≡ take size (drop (64 * k) all)
       part-is = entries-take size (drop (64 * k) s) (drop (64 * k) h) (drop (64 * k) t) (drop (64 * k) n)
@@ -217,8 +217,8 @@ module _ (ns s h t n : List ℕ) (w : Placed ns s h t n) where
       long-before : (x : List ℕ) → length x ≡ 320 → length (take (64 * k) x) ≡ 64 * k
       long-before x e = let a = length-take (64 * k) x in omega arith
 
-      put-is : entries (putMid (64 * k) size s ss) (putMid (64 * k) size h hs) (putMid (64 * k) size t ts)
-          (putMid (64 * k) size n cs) ≡ take (64 * k) all ++ (entries ss hs ts cs ++ drop size (drop (64 * k) all))
+      put-is : entriesIn (putMid (64 * k) size s ss) (putMid (64 * k) size h hs) (putMid (64 * k) size t ts)
+          (putMid (64 * k) size n cs) ≡ take (64 * k) all ++ (entriesIn ss hs ts cs ++ drop size (drop (64 * k) all))
       put-is =
           let a = long-before s (w .slots) in
           let ps = long-in s (w .slots) in
@@ -234,7 +234,7 @@ module _ (ns s h t n : List ℕ) (w : Placed ns s h t n) where
             entries-drop (64 * k) s h t n,
           )
 
-      left-long : length (entries ss hs ts cs) ≡ size
+      left-long : length (entriesIn ss hs ts cs) ≡ size
       left-long =
           let ps = long-in s (w .slots) in
           entries-length ss hs ts cs (lh ∙ long-in h (w .holders) ∙ sym (ls ∙ ps)) (lt ∙ long-in t (w .times) ∙ sym (ls ∙ ps))
@@ -254,19 +254,19 @@ module _ (ns s h t n : List ℕ) (w : Placed ns s h t n) where
               let c = fits in
               omega arith
 
-      pub purged-at : memoriesIn (set ns k r) (entries (putMid (64 * k) size s ss) (putMid (64 * k) size h hs)
+      pub purged-at : memoriesIn (set ns k r) (entriesIn (putMid (64 * k) size s ss) (putMid (64 * k) size h hs)
           (putMid (64 * k) size t ts) (putMid (64 * k) size n cs))
           ≡ update k (λ (old : List Entry). keep (lives mark) (getD (memoriesIn ns all) k [])) (memoriesIn ns all)
       purged-at =
           ap (memoriesIn (set ns k r)) put-is
-          ∙ memory-dropped ns all k size r (entries ss hs ts cs) (omega (arith, w .five)) left-long fits r-low enough
+          ∙ memory-dropped ns all k size r (entriesIn ss hs ts cs) (omega (arith, w .five)) left-long fits r-low enough
           ∙ ap (λ (x : List Entry). update k (λ (old : List Entry). x) (memoriesIn ns all)) (p .front ∙ ap (keep (lives mark)) (part-at size whole))
 
-      pub placed-still : Placed (set ns k r) (putMid (64 * k) size s ss) (putMid (64 * k) size h hs)
+      pub placed-still : MemoriesFit (set ns k r) (putMid (64 * k) size s ss) (putMid (64 * k) size h hs)
           (putMid (64 * k) size t ts) (putMid (64 * k) size n cs)
       placed-still = record {
         five = length-set ns k r ∙ w .five;
-        entries = every-set short ns k r (le-leb r mostEntries (omega (arith, r-low, fits))) (w .entries);
+        entries = every-set entriesFit ns k r (le-leb r mostEntries (omega (arith, r-low, fits))) (w .entries);
         slots = same-len-mid (64 * k) size s ss ls ∙ w .slots;
         holders = same-len-mid (64 * k) size h hs lh ∙ w .holders;
         times = same-len-mid (64 * k) size t ts lt ∙ w .times;
@@ -275,8 +275,8 @@ module _ (ns s h t n : List ℕ) (w : Placed ns s h t n) where
 
 -- ---- the drive at a clock reading: its mark later, its memories without outlived entries
 pub refreshed-view : (d : Drive) (clock mark : ℕ) (ns s h t n : List ℕ) → mark ≡ max (d .highwater) clock
-    → memoriesIn ns (entries s h t n)
-    ≡ map (keep (lives mark)) (memoriesIn (d .lengths) (entries (d .slots) (d .holders) (d .times) (d .counts)))
+    → memoriesIn ns (entriesIn s h t n)
+    ≡ map (keep (lives mark)) (memoriesIn (d .lengths) (entriesIn (d .slots) (d .holders) (d .times) (d .counts)))
     → view (record {
       size = d .size;
       highwater = mark;
@@ -295,9 +295,9 @@ refreshed-view d clock mark ns s h t n e kept = rw (kept, e) refl
 pub sound-view : (d : Drive) → length (d .lengths) ≡ 5 → length (d .slots) ≡ 320 → length (d .holders) ≡ 320
     → length (d .times) ≡ 320 → length (d .counts) ≡ 320
     → sound (view d) ≡ (leb (d .size) largestMedium
-    && every (soundPartition (quarter (d .size))) (map viewed (tablesIn 4 (d .tables))) && every short (d .lengths))
+    && every (soundPartition (quarter (d .size))) (map partitionView (tablesIn 4 (d .tables))) && every entriesFit (d .lengths))
 unfolding sound view
 sound-view d five s h t n =
-    let long : length (entries (d .slots) (d .holders) (d .times) (d .counts)) ≡ length (d .slots) =
+    let long : length (entriesIn (d .slots) (d .holders) (d .times) (d .counts)) ≡ length (d .slots) =
     entries-length (d .slots) (d .holders) (d .times) (d .counts) (h ∙ sym s) (t ∙ sym s) (n ∙ sym s) in
-    rw (memories-short (d .lengths) (entries (d .slots) (d .holders) (d .times) (d .counts)) (omega arith)) refl
+    rw (memories-short (d .lengths) (entriesIn (d .slots) (d .holders) (d .times) (d .counts)) (omega arith)) refl

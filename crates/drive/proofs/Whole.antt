@@ -5,8 +5,8 @@ use Prim.Native.Nat.{ℕ, zero, suc}
 use lib.ListN.{getD}
 use Rattle.lemmas.specs.Lists.{update}
 use Rattle.rules.specs.declared.Credential.{Credential}
-use Rattle.rules.specs.Frame.{memory}
-use Rattle.rules.specs.Drive.{Drive, partitionAt, unused}
+use Rattle.rules.specs.Frame.{memoryIndex}
+use Rattle.rules.specs.Drive.{Drive, partitionAt, emptyPartition}
 use Rattle.rules.specs.Scope.{driveScope, driveWithScope}
 
 -- ---- one element of a list, changed
@@ -28,6 +28,6 @@ module _ {A : Type 0} where
 
 pub restored : (d : Drive) (c : Credential) → driveWithScope c (driveScope d c) d ≡ d
 restored d c = rw (
-  update-kept (c .partition) (d .tables .partitions) (unused 0),
-  update-kept (memory c) (d .memories) [],
+  update-kept (c .partition) (d .tables .partitions) (emptyPartition 0),
+  update-kept (memoryIndex c) (d .memories) [],
 ) refl

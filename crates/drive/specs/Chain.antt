@@ -6,11 +6,11 @@ use mathlib.Core.List.{[], _++_, _∷_, List, map}
 use Prim.Native.Nat.{_≤_, ℕ}
 use lib.ListN.{length}
 use Rattle.lemmas.specs.Lists.{part}
-use Rattle.lemmas.specs.Rows.{firstRow}
-use Rattle.rules.specs.Demands.{Agrees, asks, bytesOf, does, MarkAndOutlived, nonce, State}
+use Rattle.lemmas.specs.RowTable.{firstRow}
+use Rattle.rules.specs.Demands.{Agrees, callFields, bytesOf, callOperation, MarkAndOutlived, nonce, State}
 use Rattle.rules.specs.declared.Operation.the-variants.{Read}
 use Rattle.rules.specs.Gate.{Call}
-use Rattle.rules.specs.Ledger.{bareScope, clocked, Fed, Ledger, ledger, ledgerScope, start}
+use Rattle.rules.specs.Ledger.{bareScope, clocked, Fed, Ledger, ledger, ledgerScope, ledgerStart}
 use Rattle.rules.specs.Operations.{headSize}
 use Rattle.rules.specs.Rows.{bounds}
 use Rattle.drive.specs.declared.Drive.{Drive}
@@ -21,54 +21,54 @@ use Rattle.drive.specs.Met.{FormatMet, GateMet}
 
 -- ---- one call made: what it brought (frame, clock reading, reply space), what it returned, and what it left of the
 -- medium and of the reply space
-pub record Done : Type 0 where
+pub record CallMade : Type 0 where
   pub call : Call
   pub answer : Answer
   pub medium : List ℕ
   pub space : List ℕ
 
-abbrev pub Granted : Done → Type 0
+abbrev pub Granted : CallMade → Type 0
 Granted c = c .answer .row ≡ 0
 
 -- ---- a list of calls
 -- drive and medium, as a call left them
-pub record Left : Type 0 where
+pub record DriveState : Type 0 where
   pub drive : Drive
   pub medium : List ℕ
 
-abbrev pub leftBy : Done → Left
-leftBy c = record { drive = c .answer .drive; medium = c .medium }
+abbrev pub leftByCall : CallMade → DriveState
+leftByCall c = record { drive = c .answer .drive; medium = c .medium }
 
 -- as the last call left them
-unfoldable pub after : Left → List Done → Left
+unfoldable pub after : DriveState → List CallMade → DriveState
 after s [] = s
-after s (c ∷ cs) = after (leftBy c) cs
+after s (c ∷ cs) = after (leftByCall c) cs
 
 -- "Each call gets the drive that the last one returned and the medium as it left it, with a frame, a reading and a
 -- reply space of its own": each keeps the gate's promise with these
-abbrev pub Met : Left → Done → Type 0
-Met s c = GateMet (s .drive) (s .medium) (c .call) (c .answer) (c .medium) (c .space)
+abbrev pub CallMet : DriveState → CallMade → Type 0
+CallMet s c = GateMet (s .drive) (s .medium) (c .call) (c .answer) (c .medium) (c .space)
 
-unfoldable pub Chain : Left → List Done → Type 0
+unfoldable pub Chain : DriveState → List CallMade → Type 0
 Chain s [] = Unit {0}
-Chain s (c ∷ cs) = Met s c × Chain (leftBy c) cs
+Chain s (c ∷ cs) = CallMet s c × Chain (leftByCall c) cs
 
 -- "The list starts from drive and medium of a format that returned row 0."
-pub record Made (medium : List ℕ) (F : ℕ) (master key : List ℕ) (r : Formatted) (zeroed : List ℕ)
-    (calls : List Done) : Type 0 where
+pub record MadeFromFormat (medium : List ℕ) (F : ℕ) (master key : List ℕ) (r : Formatted) (zeroed : List ℕ)
+    (calls : List CallMade) : Type 0 where
   pub format : FormatMet medium F master key r zeroed
   pub row : r .row ≡ 0
   pub chain : Chain (record { drive = r .drive; medium = zeroed }) calls
 
 -- ---- the ledger: fed "each call's frame, clock reading and row; nothing comes from the drive record"
-abbrev pub fedBy : Done → Fed
+abbrev pub fedBy : CallMade → Fed
 fedBy c = record { frame = c .call .frame; clock = c .call .clock; row = c .answer .row }
 
-abbrev pub book : ℕ → Ledger → List Done → Ledger
-book M l before = ledger M l (map fedBy before)
+abbrev pub ledgerAfterCalls : ℕ → Ledger → List CallMade → Ledger
+ledgerAfterCalls M l before = ledger M l (map fedBy before)
 
 -- ---- demand 1, of one call put to the drive and the medium s
-pub record Demand1 (s : Left) (c : Done) : Type 0 where
+pub record Demand1 (s : DriveState) (c : CallMade) : Type 0 where
   -- "gets a grant or one row number from document 01"
   pub row : c .answer .row ≤ 23
   -- "A refusal writes no byte of the reply space or the medium"
@@ -82,17 +82,17 @@ pub record Demand1 (s : Left) (c : Done) : Type 0 where
 
 -- "Whoever sends a frame, of any length and content, with any clock reading and any space for the reply"
 abbrev pub AllOfDemand1 : Type 0
-AllOfDemand1 = (s : Left) (c : Done) → Met s c → Demand1 s c
+AllOfDemand1 = (s : DriveState) (c : CallMade) → CallMet s c → Demand1 s c
 
 -- ---- demand 3
 -- drive and medium as the rules see them
-abbrev pub seen : Left → State
-seen s = record { drive = view (s .drive); medium = s .medium }
+abbrev pub viewedState : DriveState → State
+viewedState s = record { drive = view (s .drive); medium = s .medium }
 
 -- all of demand 3, of the calls made from drive and medium s on, M bytes, with the ledger that starts as l
-pub record Demand3 (M : ℕ) (s : Left) (l : Ledger) (calls : List Done) : Type 0 where
-  -- "No two grants in the whole list share nonce memory, key slot, holder, time and count."
-  pub noRepeat : (before between later : List Done) (b c : Done)
+pub record Demand3 (M : ℕ) (s : DriveState) (l : Ledger) (calls : List CallMade) : Type 0 where
+  -- "No two grants in the whole list facts nonce memory, key slot, holder, time and count."
+  pub noRepeat : (before between later : List CallMade) (b c : CallMade)
       → calls ≡ before ++ (b ∷ (between ++ (c ∷ later)))
       → Granted b
       → Granted c
@@ -100,27 +100,27 @@ pub record Demand3 (M : ℕ) (s : Left) (l : Ledger) (calls : List Done) : Type 
   -- "Each grant is within its credential's rights, expiry and .. range. It is under the key and .. the version that
   -- the format or earlier grants put there": rows 8–10 and 13–17, by the ledger before the call with the mark that
   -- this call sets
-  pub kept : (before later : List Done) (c : Done)
+  pub kept : (before later : List CallMade) (c : CallMade)
       → calls ≡ before ++ (c ∷ later)
       → Granted c
-      → firstRow (bounds (bareScope (ledgerScope M (clocked (c .call .clock) (book M l before)) (asks (c .call) .cred)))
-      (asks (c .call))) ≡ 0
+      → firstRow (bounds (bareScope (ledgerScope M (clocked (c .call .clock) (ledgerAfterCalls M l before)) (callFields (c .call) .cred)))
+      (callFields (c .call))) ≡ 0
   -- "Each granted read shows, for every byte, exactly the last granted write to it since that object's creation, or
   -- zero": after the reply's head, the bytes from A up to A + B of the ledger's object
-  pub shown : (before later : List Done) (c : Done) (A B : ℕ)
+  pub shown : (before later : List CallMade) (c : CallMade) (A B : ℕ)
       → calls ≡ before ++ (c ∷ later)
       → Granted c
-      → does (c .call) ≡ Read A B
-      → part (c .space) headSize B ≡ part (bytesOf (book M l before) (asks (c .call))) A B
+      → callOperation (c .call) ≡ Read A B
+      → part (c .space) headSize B ≡ part (bytesOf (ledgerAfterCalls M l before) (callFields (c .call))) A B
   -- "After every call the drive holds exactly the objects that the grants so far left, their areas disjoint and each
   -- inside its own partition." And before the first
-  pub agrees : (before later : List Done) → calls ≡ before ++ later
-      → Agrees M (seen (after s before)) (book M l before)
+  pub agrees : (before later : List CallMade) → calls ≡ before ++ later
+      → Agrees M (viewedState (after s before)) (ledgerAfterCalls M l before)
 
 -- for every format that returned row 0 and every list of calls, "whatever the frames say, whatever the clock does and
 -- whatever spaces are lent"
 abbrev pub AllOfDemand3 : Type 0
 AllOfDemand3 =
-    (medium : List ℕ) (F : ℕ) (master key : List ℕ) (r : Formatted) (zeroed : List ℕ) (calls : List Done)
-    → Made medium F master key r zeroed calls
-    → Demand3 (length medium) (record { drive = r .drive; medium = zeroed }) (start F master key) calls
+    (medium : List ℕ) (F : ℕ) (master key : List ℕ) (r : Formatted) (zeroed : List ℕ) (calls : List CallMade)
+    → MadeFromFormat medium F master key r zeroed calls
+    → Demand3 (length medium) (record { drive = r .drive; medium = zeroed }) (ledgerStart F master key) calls

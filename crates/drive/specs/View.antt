@@ -10,9 +10,9 @@ use Rattle.rules.specs.declared.Entry.{Entry}
 use Rattle.rules.specs.Drive as rules
 use Rattle.rules.specs.Drive.{mostObjects, mostEntries}
 use Rattle.keyring.specs.Keys.{keysIn}
-use Rattle.memory.specs.Memory.{entries, noEntry}
+use Rattle.memory.specs.Memory.{entriesIn, noEntry}
 use Rattle.state.specs.Padded.{padded}
-use Rattle.state.specs.Table.{tableSize, viewed}
+use Rattle.state.specs.Table.{tableSize, partitionView}
 use Rattle.drive.specs.declared.Drive.{Drive}
 
 -- n partitions' tables, which stand one after the other
@@ -29,33 +29,33 @@ memoriesIn (n ∷ ns) l =
 
 -- the memories of the five arrays of a drive: lengths, slots, holders, times, counts
 abbrev pub memoriesOf : List ℕ → List ℕ → List ℕ → List ℕ → List ℕ → List (List Entry)
-memoriesOf ns s h t n = memoriesIn ns (entries s h t n)
+memoriesOf ns s h t n = memoriesIn ns (entriesIn s h t n)
 
 unfoldable pub view : Drive → rules.Drive
 view d = record {
   size = d .size;
-  tables = record { highWater = d .highwater; keys = keysIn (d .keys); partitions = map viewed (tablesIn 4 (d .tables)) };
+  tables = record { highWater = d .highwater; keys = keysIn (d .keys); partitions = map partitionView (tablesIn 4 (d .tables)) };
   memories = memoriesOf (d .lengths) (d .slots) (d .holders) (d .times) (d .counts);
 }
 
 -- ---- a record of which no count passes its array, as every sound one is
-abbrev pub few : List ℕ → Bool
-few t = leb (getD t 2 0) mostObjects
+abbrev pub objectsFit : List ℕ → Bool
+objectsFit t = leb (getD t 2 0) mostObjects
 
-abbrev pub short : ℕ → Bool
-short n = leb n mostEntries
+abbrev pub entriesFit : ℕ → Bool
+entriesFit n = leb n mostEntries
 
 -- five lengths (ns), none over 64, and as many slots, holders, times and counts as five memories have places
-pub record Placed (ns s h t n : List ℕ) : Type 0 where
+pub record MemoriesFit (ns s h t n : List ℕ) : Type 0 where
   pub five : length ns ≡ 5
-  pub entries : every short ns ≡ true
+  pub entries : every entriesFit ns ≡ true
   pub slots : length s ≡ 320
   pub holders : length h ≡ 320
   pub times : length t ≡ 320
   pub counts : length n ≡ 320
 
-pub record Counted (d : Drive) : Type 0 where
+pub record CountsFit (d : Drive) : Type 0 where
   pub keys : length (d .keys) ≡ 462
   pub tables : length (d .tables) ≡ 268
-  pub objects : every few (tablesIn 4 (d .tables)) ≡ true
-  pub memories : Placed (d .lengths) (d .slots) (d .holders) (d .times) (d .counts)
+  pub objects : every objectsFit (tablesIn 4 (d .tables)) ≡ true
+  pub memories : MemoriesFit (d .lengths) (d .slots) (d .holders) (d .times) (d .counts)

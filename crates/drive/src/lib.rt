@@ -3,10 +3,10 @@ ghost use mathlib.Core.Path.{_≡_};
 ghost use Rattle.drive.specs.Met.{callOf, FormatMet, GateMet};
 use wire::Parsed;
 
-mod blank;
-mod fresh;
+mod admission;
+mod formatting;
 mod replay;
-mod serve;
+mod row1;
 
 // Plain data, passed by value and returned. Nothing is asked of a record passed in: row 1 refuses one that is not sound.
 // `size` is the medium's length M, `highwater` document 01's mark. All else stands in arrays of numbers, which can be lent:
@@ -48,7 +48,7 @@ struct Core {
 
 // What a frame can see of a drive beside keys and its own partition's table: M, the mark, and of its own replay memory
 // whether that holds its nonce, and how many entries.
-struct Share {
+struct ScopeFacts {
     size: usize,
     highwater: u64,
     replayed: bool,
@@ -67,15 +67,15 @@ struct Outcome {
 pub fn format(medium: &mut [u8], first: u32, master: &[u8], key: &[u8]) -> Formatted
     ensures { λ r. ⌜ FormatMet (now (medium .entry)) first (now (master .entry)) (now (key .entry)) r (now (medium .exit)) ⌝ }
 {
-    let row = blank::format_row(medium.len(), first, master.len(), key.len());
+    let row = formatting::format_row(medium.len(), first, master.len(), key.len());
     if row != 0 {
-        let drive = blank::new_drive(0, 0, [0; 462]);
+        let drive = formatting::new_drive(0, 0, [0; 462]);
         return Formatted { row, drive };
     }
     let size = medium.len();
     extent::clear_all(medium);
     let keys = keyring::new_keys(master, key);
-    let drive = blank::new_drive(size, first, keys);
+    let drive = formatting::new_drive(size, first, keys);
     Formatted { row: 0, drive }
 }
 
@@ -98,10 +98,10 @@ pub fn gate(drive: Drive, medium: &mut [u8], frame: &[u8], clock: u64, reply: &m
     let mut holders = drive.holders;
     let mut times = drive.times;
     let mut counts = drive.counts;
-    if !fresh::is_ready(drive.size, &tables, &lengths, medium.len()) {
+    if !row1::passes_row1(drive.size, &tables, &lengths, medium.len()) {
         return answered(core, keys, tables, lengths, slots, holders, times, counts);
     }
-    let mark = fresh::later(drive.highwater, clock);
+    let mark = row1::later(drive.highwater, clock);
     core.highwater = mark;
     replay::drop_outlived(
         &mut lengths,
@@ -116,11 +116,11 @@ pub fn gate(drive: Drive, medium: &mut [u8], frame: &[u8], clock: u64, reply: &m
         core.row = wire::row_of(parsed);
         return answered(core, keys, tables, lengths, slots, holders, times, counts);
     };
-    let k = serve::memory_of(c);
+    let k = admission::memory_of(c);
     let nonce = judge::entry_of(c, wire::numbers(q));
     let replayed = replay::is_replayed(&lengths, &slots, &holders, &times, &counts, k, nonce);
     let held = lengths[k];
-    let share = Share {
+    let facts = ScopeFacts {
         size: core.size,
         highwater: mark,
         replayed,
@@ -128,13 +128,13 @@ pub fn gate(drive: Drive, medium: &mut [u8], frame: &[u8], clock: u64, reply: &m
     };
     let at = 67 * c.partition as usize;
     let end = at + 67;
-    let out = serve::serve(share, &keys, &tables[at..end], medium, frame, reply, c, q);
+    let out = admission::admit(facts, &keys, &tables[at..end], medium, frame, reply, c, q);
     core.row = out.row;
     core.length = out.length;
     if out.row != 0 {
         return answered(core, keys, tables, lengths, slots, holders, times, counts);
     }
-    serve::change_keys(&mut keys, frame, c, q);
+    admission::change_keys(&mut keys, frame, c, q);
     let o = q.operation;
     partition::apply(&mut tables[at..end], o, c.object, out.next, out.place);
     replay::enter(

@@ -6,7 +6,7 @@ ghost use lib.ListN.{getD};
 ghost use Rattle.lemmas.specs.Lists.{keep, some?, update};
 ghost use Rattle.rules.specs.declared.Entry.{Entry};
 ghost use Rattle.rules.specs.Drive.{lives, mostEntries, sameEntry};
-ghost use Rattle.drive.specs.View.{memoriesOf, Placed};
+ghost use Rattle.drive.specs.View.{memoriesOf, MemoriesFit};
 use rules::Entry;
 
 // Drops the outlived entries of every memory.
@@ -18,10 +18,10 @@ pub fn drop_outlived(
     counts: &mut [u32],
     mark: u64,
 )
-    requires { ⌜ Placed (now lengths) (now slots) (now holders) (now times) (now counts) ⌝ }
+    requires { ⌜ MemoriesFit (now lengths) (now slots) (now holders) (now times) (now counts) ⌝ }
     ensures { λ r. ⌜ (memoriesOf (now (lengths .exit)) (now (slots .exit)) (now (holders .exit)) (now (times .exit)) (now (counts .exit))
         ≡ map (keep (lives mark)) (memoriesOf (now (lengths .entry)) (now (slots .entry)) (now (holders .entry)) (now (times .entry)) (now (counts .entry))))
-        × Placed (now (lengths .exit)) (now (slots .exit)) (now (holders .exit)) (now (times .exit)) (now (counts .exit)) ⌝ }
+        × MemoriesFit (now (lengths .exit)) (now (slots .exit)) (now (holders .exit)) (now (times .exit)) (now (counts .exit)) ⌝ }
 {
     let mut m = 0;
     while m < 5 {
@@ -49,7 +49,7 @@ pub fn is_replayed(
     k: usize,
     nonce: Entry,
 ) -> bool
-    requires { ⌜ Placed (now lengths) (now slots) (now holders) (now times) (now counts) × (k < 5) ⌝ }
+    requires { ⌜ MemoriesFit (now lengths) (now slots) (now holders) (now times) (now counts) × (k < 5) ⌝ }
     ensures { λ r. ⌜ r ≡ some? (sameEntry nonce) (getD (memoriesOf (now (lengths .entry)) (now (slots .entry)) (now (holders .entry)) (now (times .entry)) (now (counts .entry))) k []) ⌝ }
 {
     let start = 64 * k;
@@ -73,7 +73,7 @@ pub fn enter(
     k: usize,
     nonce: Entry,
 )
-    requires { ⌜ Placed (now lengths) (now slots) (now holders) (now times) (now counts) × (k < 5) × (getD (now lengths) k 0 < mostEntries) ⌝ }
+    requires { ⌜ MemoriesFit (now lengths) (now slots) (now holders) (now times) (now counts) × (k < 5) × (getD (now lengths) k 0 < mostEntries) ⌝ }
     ensures { λ r. ⌜ memoriesOf (now (lengths .exit)) (now (slots .exit)) (now (holders .exit)) (now (times .exit)) (now (counts .exit))
         ≡ update k (λ (old : List Entry). old ++ (nonce ∷ [])) (memoriesOf (now (lengths .entry)) (now (slots .entry)) (now (holders .entry)) (now (times .entry)) (now (counts .entry))) ⌝ }
 {

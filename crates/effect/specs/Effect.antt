@@ -9,25 +9,25 @@ use Rattle.lemmas.specs.Tests.{_is_}
 use Rattle.lemmas.specs.Lists.{splice}
 use Rattle.rules.specs.declared.Operation.{Operation}
 use Rattle.rules.specs.declared.Operation.the-variants.{Read, Write, Look, Raise, Create, Delete, SetKey}
-use Rattle.effect.specs.declared.Site.{Site}
+use Rattle.effect.specs.declared.GrantContext.{GrantContext}
 
 -- the next version, 0 after the last that there is
-abbrev pub nextOf : ℕ → ℕ
-nextOf last = cond (last is 4_294_967_295) 0 (last + 1)
+abbrev pub nextVersionOf : ℕ → ℕ
+nextVersionOf last = cond (last is 4_294_967_295) 0 (last + 1)
 
 -- where the object starts on the medium
-abbrev pub objectFrom : Site → ℕ
-objectFrom s = s .base + s .start
+abbrev pub objectStart : GrantContext → ℕ
+objectStart s = s .base + s .start
 
 -- the medium with a write's bytes in its object, or a new extent cleared
-abbrev pub mediumPut : Operation → Site → List ℕ → List ℕ → List ℕ
-mediumPut (Read a b) s bytes m = m
-mediumPut (Write a b) s bytes m =
-    cond (leb (objectFrom s + s .size) (length m) && leb (a + length bytes) (s .size))
-    (splice m (objectFrom s + a) bytes) m
-mediumPut Look s bytes m = m
-mediumPut Raise s bytes m = m
-mediumPut (Create number size) s bytes m =
+abbrev pub mediumAfter : Operation → GrantContext → List ℕ → List ℕ → List ℕ
+mediumAfter (Read a b) s bytes m = m
+mediumAfter (Write a b) s bytes m =
+    cond (leb (objectStart s + s .size) (length m) && leb (a + length bytes) (s .size))
+    (splice m (objectStart s + a) bytes) m
+mediumAfter Look s bytes m = m
+mediumAfter Raise s bytes m = m
+mediumAfter (Create number size) s bytes m =
     cond (leb (s .base + s .place + size) (length m)) (splice m (s .base + s .place) (replicate size 0)) m
-mediumPut Delete s bytes m = m
-mediumPut (SetKey target) s bytes m = m
+mediumAfter Delete s bytes m = m
+mediumAfter (SetKey target) s bytes m = m

@@ -1,31 +1,31 @@
 // What a granted operation does to the medium, and where it works. Everything is total: where bytes do not fit, nothing
 // is written.
 ghost use mathlib.Core.Path.{_≡_};
-ghost use Rattle.effect.specs.Effect.{mediumPut, nextOf};
+ghost use Rattle.effect.specs.Effect.{mediumAfter, nextVersionOf};
 use rules::Operation;
 
 // Where an operation works. `base` is the partition's start on the medium; `start` and `size` are the object's extent in
 // it, `place` the start of a new one; `told` and `version` are what a look tells, `next` is the next version.
-pub struct Site {
+pub struct GrantContext {
     pub base: u32,
     pub start: u32,
     pub size: u32,
     pub place: u32,
-    pub told: u32,
+    pub looksize: u32,
     pub version: u32,
     pub next: u32,
 }
 
 // The next version; 0 after the last that there is, which row 21 refuses.
 pub fn next_version(last: u32) -> u32
-    ensures { λ r. ⌜ r ≡ nextOf last ⌝ }
+    ensures { λ r. ⌜ r ≡ nextVersionOf last ⌝ }
 {
     if last == 4294967295 { 0 } else { last + 1 }
 }
 
 // A write's bytes go into its object's own part of the medium; a new extent is cleared.
-pub fn put_bytes(medium: &mut [u8], bytes: &[u8], o: Operation, s: Site)
-    ensures { λ _. ⌜ now (medium .exit) ≡ mediumPut o s (now (bytes .entry)) (now (medium .entry)) ⌝ }
+pub fn update_medium(medium: &mut [u8], bytes: &[u8], o: Operation, s: GrantContext)
+    ensures { λ _. ⌜ now (medium .exit) ≡ mediumAfter o s (now (bytes .entry)) (now (medium .entry)) ⌝ }
 {
     match o {
         Operation::Read {

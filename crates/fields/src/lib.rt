@@ -4,7 +4,7 @@ ghost use Rattle.fields.specs.Records.{credentialIn, noRequest, requestI
 
 mod layout;
 
-// The lengths of a frame's parts, where the request starts in it, and how long it is without data.
+// The lengths of a frame's parts, where request and data start in it, and how long it is without data.
 pub const CREDENTIAL_SIZE: usize = 36;
 
 pub const REQUEST_SIZE: usize = 28;
@@ -13,7 +13,9 @@ pub const DIGEST_SIZE: usize = 32;
 
 pub const REQUEST_START: usize = CREDENTIAL_SIZE;
 
-pub const LEAST_FRAME: usize = REQUEST_START + REQUEST_SIZE + DIGEST_SIZE;
+pub const DATA_START: usize = REQUEST_START + REQUEST_SIZE;
+
+pub const LEAST_FRAME: usize = DATA_START + DIGEST_SIZE;
 
 // The credential that stands at place at; all zeros where it is not all there.
 pub fn credential_in(s: &[u8], at: usize) -> rules::Credential

@@ -6,7 +6,7 @@ use mathlib.Core.List.{List}
 use Prim.Native.Nat.{ℕ}
 use lib.ListN.{length, length-replicate}
 use Rattle.lemmas.specs.Tests.{_is_}
-use Rattle.lemmas.specs.Rows.{Row, firstRow}
+use Rattle.lemmas.specs.RowTable.{Row, firstRow}
 use Rattle.rules.specs.Frame.{Fields, fields}
 use Rattle.rules.specs.Drive as rules
 use Rattle.rules.specs.Drive.{refresh}

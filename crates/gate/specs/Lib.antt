@@ -1,3 +1,3 @@
 pub mod Answered
-pub mod Said
-pub mod Serving
+pub mod Printed
+pub mod Promises

@@ -10,7 +10,7 @@ ghost use Rattle.rules.specs.Program.{cut};
 ghost use Rattle.rules.specs.Program.{ended as Program·ended};
 ghost use Rattle.lines.specs.Text.{TextPut};
 ghost use Rattle.gate.specs.Answered.{stateOf};
-ghost use Rattle.gate.specs.Serving.{NextMet, ServeMet, DrainMet, Held, RoomMet, FetchMet, Ready};
+ghost use Rattle.gate.specs.Promises.{NextMet, AnswerMet, DrainMet, InBuffer, RoomMet, FetchMet, BetweenReads};
 use drive::Answer;
 use libc::STDIN_FILENO;
 use libc::STDOUT_FILENO;
@@ -109,7 +109,7 @@ fn serve(
     out: &mut [u8],
 ) -> Served
     requires { ⌜ (calls + length (now input) < 2 ^ 64) × (64 ≤ length (now out)) × (length (now reply) ≡ 65536) ⌝ }
-    ensures { λ r. ⌜ ServeMet (stateOf drive (now (medium .entry))) calls (now (input .entry)) (stateOf (r .drive) (now (medium .exit))) (r .calls) (r .taken) (r .put) (now (out .exit)) ⌝ }
+    ensures { λ r. ⌜ AnswerMet (stateOf drive (now (medium .entry))) calls (now (input .entry)) (stateOf (r .drive) (now (medium .exit))) (r .calls) (r .taken) (r .put) (now (out .exit)) ⌝ }
 {
     let mut a = Answer {
         row: 0,
@@ -189,7 +189,7 @@ fn to_front(buf: &mut [u8], from: usize, n: usize)
 
 // Sees to room for a read behind the bytes that have not been taken. They move only where less than 64 KiB are free.
 fn make_room(input: &mut [u8], rest: Rest) -> Rest
-    requires { ⌜ Held (rest .from) (rest .to) × (length (now input) ≡ 131086) ⌝ }
+    requires { ⌜ InBuffer (rest .from) (rest .to) × (length (now input) ≡ 131086) ⌝ }
     ensures { λ r. ⌜ RoomMet (now (input .entry)) (rest .from) (rest .to) (now (input .exit)) (r .from) (r .to) ⌝ }
 {
     let from = rest.from;
@@ -237,7 +237,7 @@ fn finish(out: &mut [u8], ended: bool, calls: u64) {
 
 // Sees to room and reads once.
 fn fetch(input: &mut [u8], rest: Rest) -> Fetched
-    requires { ⌜ Held (rest .from) (rest .to) × (length (now input) ≡ 131086) ⌝ }
+    requires { ⌜ InBuffer (rest .from) (rest .to) × (length (now input) ≡ 131086) ⌝ }
     ensures { λ r. ⌜ FetchMet (rest .from) (rest .to) (r .from) (r .to) (r .count) ⌝ }
 {
     let r = make_room(input, rest);
@@ -262,8 +262,8 @@ fn turn(
     reply: &mut [u8],
     out: &mut [u8],
 ) -> Between
-    requires { ⌜ Ready (t .calls) (t .seen) (t .rest .from) (t .rest .to) × (t .seen < 2 ^ 63) × (length (now input) ≡ 131086) × (64 ≤ length (now out)) × (length (now reply) ≡ 65536) ⌝ }
-    ensures { λ r. ⌜ (r .go ≡ true → Ready (r .calls) (r .seen) (r .rest .from) (r .rest .to) × (t .seen < r .seen)) ⌝ }
+    requires { ⌜ BetweenReads (t .calls) (t .seen) (t .rest .from) (t .rest .to) × (t .seen < 2 ^ 63) × (length (now input) ≡ 131086) × (64 ≤ length (now out)) × (length (now reply) ≡ 65536) ⌝ }
+    ensures { λ r. ⌜ (r .go ≡ true → BetweenReads (r .calls) (r .seen) (r .rest .from) (r .rest .to) × (t .seen < r .seen)) ⌝ }
 {
     let d = t.drive;
     let rest = t.rest;

@@ -9,7 +9,7 @@ use Prim.Native.Nat.{ℕ, _+_, _-_}
 use lib.ListN.{length}
 use Rattle.lemmas.specs.Tests.{_is_, _isnt_, _over_, _under_}
 use Rattle.lemmas.specs.Lists.{find, missing}
-use Rattle.lemmas.specs.Rows.{firstRow}
+use Rattle.lemmas.specs.RowTable.{firstRow}
 use Rattle.rules.specs.declared.Credential.{Credential}
 use Rattle.rules.specs.declared.Request.{Request}
 use Rattle.rules.specs.declared.Object.{Object}
@@ -17,18 +17,18 @@ use Rattle.rules.specs.Drive as rules
 use Rattle.rules.specs.Drive.{mostObjects, mostEntries}
 use Rattle.rules.specs.BestFit.{extentStep, bestFit}
 use Rattle.rules.specs.Scope.{Scope}
-use Rattle.rules.specs.Operations.{named, objectOf, present, placeOf, replyLength}
-use Rattle.rules.specs.Rows.{expired, untimely, bit, moves, gives, outOfRange, row10, row11, row12, row13, row14, row15, row16, row17, row18, row19, row20, row21, row22, scopeRows}
-use Rattle.state.specs.declared.Target.{Target}
-use Rattle.state.specs.Table.{targetIn}
+use Rattle.rules.specs.Operations.{namedObject, objectOf, presentVersion, placement, replyLength}
+use Rattle.rules.specs.Rows.{expired, untimely, bit, isTransfer, givesVersion, outOfRange, row10, row11, row12, row13, row14, row15, row16, row17, row18, row19, row20, row21, row22, scopeRows}
+use Rattle.state.specs.declared.Lookup.{Lookup}
+use Rattle.state.specs.Table.{lookupIn}
 
 -- where a new object's extent starts; none where no object is created
-abbrev pub placeFor : ℕ → List Object → Request → Option ℕ
-placeFor q l r = cond (r .operation isnt 5) none (bestFit extentStep q l (r .B))
+abbrev pub placementFor : ℕ → List Object → Request → Option ℕ
+placementFor q l r = cond (r .operation isnt 5) none (bestFit extentStep q l (r .B))
 
 -- the present version of what a number names: the partition's for number 0, else that of the object found
-abbrev pub presentIn : ℕ → ℕ → Target → ℕ
-presentIn version n t = cond (n is 0) version (t .object .version)
+abbrev pub presentVersionIn : ℕ → ℕ → Lookup → ℕ
+presentVersionIn version n t = cond (n is 0) version (t .object .version)
 
 -- ---- the rows, `rest` being the answer where none of them applies
 abbrev pub timeRow : ℕ → Bool → Credential → ℕ → Request → ℕ → ℕ
@@ -37,29 +37,29 @@ timeRow mark replayed c operation r rest =
     (cond (untimely mark (r .time)) 11
     (cond replayed 12 (cond (not (bit (operation - 1) (c .rights))) 13 rest)))
 
-abbrev pub objectRow : Credential → Request → Target → ℕ → ℕ → ℕ
+abbrev pub objectRow : Credential → Request → Lookup → ℕ → ℕ → ℕ
 objectRow c r t version rest =
     cond (c .object isnt 0 && t .missing) 14
     (cond (r .operation under 7 && c .version isnt version) 15
-    (cond (moves r && outOfRange (c .first) (c .end) (r .A) (r .B)) 16
-    (cond (moves r && r .A + r .B over t .object .size) 17 rest)))
+    (cond (isTransfer r && outOfRange (c .first) (c .end) (r .A) (r .B)) 16
+    (cond (isTransfer r && r .A + r .B over t .object .size) 17 rest)))
 
 abbrev pub roomRow : rules.Partition Object → ℕ → Request → Option ℕ → ℕ → ℕ
 roomRow p held r place space =
     cond (r .operation is 5 && not (missing (find Object.number (r .A) (p .objects)))) 18
     (cond (r .operation is 5 && length (p .objects) is mostObjects) 19
     (cond (r .operation is 5 && missing place) 20
-    (cond (gives r && p .last is 4_294_967_295) 21
+    (cond (givesVersion r && p .last is 4_294_967_295) 21
     (cond (held is mostEntries) 22 (cond (space under replyLength r) 23 0)))))
 
 -- ---- what the code is told of a Scope s: the mark, the partition, two facts of the memory, and where a new extent would start
-pub record Told (s : Scope Object) (mark : ℕ) (p : rules.Partition Object) (replayed : Bool) (held : ℕ) (c : Credential)
+pub record FactsHold (s : Scope Object) (mark : ℕ) (p : rules.Partition Object) (replayed : Bool) (held : ℕ) (c : Credential)
     (r : Request) (place : Option ℕ) : Type 0 where
   pub marked : s .highWater ≡ mark
   pub own : s .partition ≡ p
   pub repeats : row12 s c r ≡ replayed
   pub entries : length (s .memory) ≡ held
-  pub placed : place ≡ cond (r .operation isnt 5) none (placeOf s (r .B))
+  pub placed : place ≡ cond (r .operation isnt 5) none (placement s (r .B))
 
 -- a place that is looked for only where one is needed judges row 20 the same
 place-when : (b : Bool) (place : Option ℕ) → (b && missing (cond (not b) none place)) ≡ (b && missing place)
@@ -67,10 +67,10 @@ place-when true place = refl
 place-when false place = refl
 
 -- ---- they are the rules' rows
-pub rows-told : (s : Scope Object) (mark : ℕ) (p : rules.Partition Object) (replayed : Bool) (held : ℕ) (c : Credential)
-    (r : Request) (place : Option ℕ) (room : ℕ) → Told s mark p replayed held c r place
-    → timeRow mark replayed c (r .operation) r (objectRow c r (targetIn (p .objects) (c .object))
-    (presentIn (p .version) (c .object) (targetIn (p .objects) (c .object))) (roomRow p held r place room))
+pub rows-by-facts : (s : Scope Object) (mark : ℕ) (p : rules.Partition Object) (replayed : Bool) (held : ℕ) (c : Credential)
+    (r : Request) (place : Option ℕ) (room : ℕ) → FactsHold s mark p replayed held c r place
+    → timeRow mark replayed c (r .operation) r (objectRow c r (lookupIn (p .objects) (c .object))
+    (presentVersionIn (p .version) (c .object) (lookupIn (p .objects) (c .object))) (roomRow p held r place room))
     ≡ firstRow (scopeRows s c r room)
 unfolding
     firstRow
@@ -87,11 +87,11 @@ unfolding
     row20
     row21
     row22
-    named
+    namedObject
     objectOf
-    present
-    targetIn
-rows-told s mark p replayed held c r place room w =
-    let w20 : (r .operation is 5 && missing place) ≡ (r .operation is 5 && missing (placeOf s (r .B))) =
-    ap (λ (a : Option ℕ). r .operation is 5 && missing a) (w .placed) ∙ place-when (r .operation is 5) (placeOf s (r .B)) in
+    presentVersion
+    lookupIn
+rows-by-facts s mark p replayed held c r place room w =
+    let w20 : (r .operation is 5 && missing place) ≡ (r .operation is 5 && missing (placement s (r .B))) =
+    ap (λ (a : Option ℕ). r .operation is 5 && missing a) (w .placed) ∙ place-when (r .operation is 5) (placement s (r .B)) in
     rw (w20, ← w .marked, ← w .own, ← w .repeats, ← w .entries) refl

@@ -4,23 +4,23 @@ ghost use mathlib.Core.Path.{_≡_};
 ghost use mathlib.Core.Bool.{not, cond};
 ghost use Prim.Native.Nat.{_-_};
 ghost use lib.ListN.{getD};
-ghost use Rattle.lemmas.specs.Rows.{firstRow};
+ghost use Rattle.lemmas.specs.RowTable.{firstRow};
 ghost use Rattle.lemmas.specs.Lists.{missing};
 ghost use Rattle.rules.specs.declared.Object.{Object};
 ghost use Rattle.rules.specs.Frame.{entry};
 ghost use Rattle.rules.specs.Scope.{Scope};
 ghost use Rattle.rules.specs.Rows.{untimely, bit, outOfRange, scopeRows};
-ghost use Rattle.state.specs.Table.{heldIn, partitionIn};
-ghost use Rattle.placing.specs.Placing.{told};
-ghost use Rattle.wire.specs.Parse.{operationNumber, requestTold};
-ghost use Rattle.judge.specs.Judge.{placeFor, presentIn, timeRow, objectRow, roomRow, Told};
+ghost use Rattle.state.specs.Table.{objectsIn, partitionIn};
+ghost use Rattle.placing.specs.Placing.{placeOption};
+ghost use Rattle.wire.specs.Parse.{operationNumber, numbersOf};
+ghost use Rattle.judge.specs.Judge.{placementFor, presentVersionIn, timeRow, objectRow, roomRow, FactsHold};
 use lemmas::pick;
 use placing::Place;
 use rules::Credential;
 use rules::Entry;
 use rules::Operation;
 use rules::Request;
-use state::Target;
+use state::Lookup;
 use wire::ParsedRequest;
 
 // The nonce of a frame: what a grant enters.
@@ -37,7 +37,7 @@ pub fn entry_of(c: Credential, r: Request) -> Entry
 
 // Where a new object's extent starts; nowhere where none is asked for.
 pub fn place_for(table: &[u32], quarter: u32, r: Request) -> Place
-    ensures { λ p. ⌜ told p ≡ placeFor quarter (heldIn (now (table .entry))) r ⌝ }
+    ensures { λ p. ⌜ placeOption p ≡ placementFor quarter (objectsIn (now (table .entry))) r ⌝ }
 {
     if r.operation != 5 {
         return Place::Nowhere;
@@ -47,7 +47,7 @@ pub fn place_for(table: &[u32], quarter: u32, r: Request) -> Place
 
 // Whether there is no place for a new extent.
 fn is_nowhere(p: Place) -> bool
-    ensures { λ r. ⌜ r ≡ missing (told p) ⌝ }
+    ensures { λ r. ⌜ r ≡ missing (placeOption p) ⌝ }
 {
     match p {
         Place::At(_) => false,
@@ -105,8 +105,8 @@ fn time_row(
 }
 
 // The present version: object 0 means the partition.
-pub fn present(version: u32, number: u32, t: Target) -> u32
-    ensures { λ r. ⌜ r ≡ presentIn version number t ⌝ }
+pub fn present_version(version: u32, number: u32, t: Lookup) -> u32
+    ensures { λ r. ⌜ r ≡ presentVersionIn version number t ⌝ }
 {
     pick(number == 0, version, t.object.version)
 }
@@ -129,7 +129,7 @@ fn is_out_of_range(first: u32, end: u32, from: u32, count: u32) -> bool
 }
 
 // Rows 14 to 17: object, version, range, size.
-fn object_row(c: Credential, r: Request, t: Target, version: u32, rest: u32) -> u32
+fn object_row(c: Credential, r: Request, t: Lookup, version: u32, rest: u32) -> u32
     ensures { λ x. ⌜ x ≡ objectRow c r t version rest ⌝ }
 {
     let o = t.object;
@@ -146,9 +146,9 @@ fn object_row(c: Credential, r: Request, t: Target, version: u32, rest: u32) -> 
 
 // Rows 18 to 23: number, objects, place, versions, memory, reply space.
 fn room_row(table: &[u32], held: usize, r: Request, place: Place, space: usize) -> u32
-    ensures { λ x. ⌜ x ≡ roomRow (partitionIn (now (table .entry))) held r (told place) space ⌝ }
+    ensures { λ x. ⌜ x ≡ roomRow (partitionIn (now (table .entry))) held r (placeOption place) space ⌝ }
 {
-    let taken = state::named(table, r.A);
+    let taken = state::look_up(table, r.A);
     let last = number_at(table, 1);
     let gives = (r.operation == 4) | (r.operation == 5);
     let creates = r.operation == 5;
@@ -171,13 +171,13 @@ pub fn judge(
     place: Place,
     space: usize,
 ) -> u32
-    ensures { λ x. ⌜ ((s : Scope Object) → Told s mark (partitionIn (now (table .entry))) replayed held c (requestTold q) (told place)
-        → x ≡ firstRow (scopeRows s c (requestTold q) space)) ⌝ }
+    ensures { λ x. ⌜ ((s : Scope Object) → FactsHold s mark (partitionIn (now (table .entry))) replayed held c (numbersOf q) (placeOption place)
+        → x ≡ firstRow (scopeRows s c (numbersOf q) space)) ⌝ }
 {
     let r = wire::numbers(q);
-    let t = state::named(table, c.object);
+    let t = state::look_up(table, c.object);
     let version = number_at(table, 0);
-    let v = present(version, c.object, t);
+    let v = present_version(version, c.object, t);
     let x = room_row(table, held, r, place, space);
     let x = object_row(c, r, t, v, x);
     time_row(mark, replayed, c, q, r, x)

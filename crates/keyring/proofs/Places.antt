@@ -11,15 +11,15 @@ use Rattle.lemmas.specs.Tests.{_under_, _is_}
 use Rattle.lemmas.specs.Lists.{splice}
 use Rattle.lemmas.specs.Parts.{length-splice}
 use Rattle.octets.specs.Numbers.{bytesPut}
-use Rattle.keyring.specs.Keys.{ofFour, placeOf, keyPutAt}
-use Rattle.keyring.specs.Laws.{fits-yes}
+use Rattle.keyring.specs.Keys.{indexAmongFour, keyIndex, keyStored}
+use Rattle.keyring.specs.KeyLaws.{fits-yes}
 
 pub from-five : (n : ℕ) → (n ≡ 0 → ⊥) → (n ≡ 1 → ⊥) → (n ≡ 2 → ⊥) → (n ≡ 3 → ⊥) → (n ≡ 4 → ⊥) → 5 ≤ n
 from-five n a b c d e = omega arith
 
-pub no-place : (slot p : ℕ) → 5 ≤ slot → placeOf slot p ≡ 14
-unfolding placeOf
-no-place slot p h = List·getD-eq-default (ofFour 0 p ∷ ofFour 4 p ∷ ofFour 8 p ∷ 12 ∷ 13 ∷ []) 14 {n = slot} h
+pub no-place : (slot p : ℕ) → 5 ≤ slot → keyIndex slot p ≡ 14
+unfolding keyIndex
+no-place slot p h = List·getD-eq-default (indexAmongFour 0 p ∷ indexAmongFour 4 p ∷ indexAmongFour 8 p ∷ 12 ∷ 13 ∷ []) 14 {n = slot} h
 
 store-splice : (s : List ℕ) (i x : ℕ) → i < length s → set s i x ≡ splice s i (x ∷ [])
 unfolding splice
@@ -36,8 +36,8 @@ module _ (j : ℕ) (new ks s : List ℕ) (h : (j under 14 && length ks is 462 &&
       let f = fits-yes j new ks h in
       ap length copied ∙ length-splice ks new (32 * j) (omega arith) ∙ f .1
 
-  pub stored : set s (448 + j) 1 ≡ keyPutAt j new ks
-  unfolding keyPutAt
+  pub stored : set s (448 + j) 1 ≡ keyStored j new ks
+  unfolding keyStored
   stored =
       let f = fits-yes j new ks h in
       rw h (store-splice s (448 + j) 1 (omega (arith, copied-length))

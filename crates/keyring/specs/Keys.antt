@@ -31,26 +31,26 @@ isSet ks j = length ks is 462 && j under 14 && getD ks (448 + j) 0 isnt 0
 
 -- ---- places; 14 is no key's
 -- partition p's key among the four from a place on
-abbrev pub ofFour : ℕ → ℕ → ℕ
-ofFour first p = cond (p under 4) (first + p) 14
+abbrev pub indexAmongFour : ℕ → ℕ → ℕ
+indexAmongFour first p = cond (p under 4) (first + p) 14
 
 -- which key a slot names: "0 black, 1 gold, 2 partition key, 3 drive key, 4 master key"
-unfoldable pub placeOf : ℕ → ℕ → ℕ
-placeOf slot p = getD (ofFour 0 p ∷ ofFour 4 p ∷ ofFour 8 p ∷ 12 ∷ 13 ∷ []) slot 14
+unfoldable pub keyIndex : ℕ → ℕ → ℕ
+keyIndex slot p = getD (indexAmongFour 0 p ∷ indexAmongFour 4 p ∷ indexAmongFour 8 p ∷ 12 ∷ 13 ∷ []) slot 14
 
 -- which key operation 7 sets: "Slot 4 sets the drive key, slot 3 partition A's key, slot 2 working key A (0 or 1)"
-unfoldable pub targetOf : ℕ → ℕ → ℕ → ℕ
-targetOf slot p a = cond (slot is 4) 12 (cond (slot is 3) (ofFour 8 a) (cond (a is 0) (ofFour 0 p) (ofFour 4 p)))
+unfoldable pub targetIndex : ℕ → ℕ → ℕ → ℕ
+targetIndex slot p a = cond (slot is 4) 12 (cond (slot is 3) (indexAmongFour 8 a) (cond (a is 0) (indexAmongFour 0 p) (indexAmongFour 4 p)))
 
 -- ---- the bytes after a key was set, and a fresh drive's
 -- key j is new; where there is no key j, or lengths do not fit, all stays
-unfoldable pub keyPutAt : ℕ → List ℕ → List ℕ → List ℕ
-keyPutAt j new ks =
+unfoldable pub keyStored : ℕ → List ℕ → List ℕ → List ℕ
+keyStored j new ks =
     cond (j under 14 && length ks is 462 && length new is 32)
     (splice (splice ks (32 * j) new) (448 + j) (1 ∷ [])) ks
 
 -- no key but the master key and the drive key; where either is not 32 bytes, no key at all
-unfoldable pub freshKeys : List ℕ → List ℕ → List ℕ
-freshKeys master drive =
+unfoldable pub formattedKeys : List ℕ → List ℕ → List ℕ
+formattedKeys master drive =
     cond (length master is 32 && length drive is 32)
-    (keyPutAt 13 master (keyPutAt 12 drive (replicate 462 0))) (replicate 462 0)
+    (keyStored 13 master (keyStored 12 drive (replicate 462 0))) (replicate 462 0)

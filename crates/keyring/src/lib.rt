@@ -3,24 +3,24 @@
 // key 1 (gold), 8 to 11 the partition keys, 12 the drive key, 13 the master key; 14 is no key.
 ghost use mathlib.Core.Path.{_≡_};
 ghost use Prim.Native.Nat.{_≤_};
-ghost use Rattle.keyring.specs.Keys.{isSet, ofFour, placeOf, targetOf, keyPutAt, freshKeys};
+ghost use Rattle.keyring.specs.Keys.{isSet, indexAmongFour, keyIndex, targetIndex, keyStored, formattedKeys};
 
 // Partition `p`'s key among the four from a place on, none past the four.
-fn of_four(first: usize, p: usize) -> usize
+fn index_among_four(first: usize, p: usize) -> usize
     requires { ⌜ first ≤ 8 ⌝ }
-    ensures { λ r. ⌜ r ≡ ofFour first p ⌝ }
+    ensures { λ r. ⌜ r ≡ indexAmongFour first p ⌝ }
 {
     if p < 4 { first + p } else { 14 }
 }
 
 // The key that a slot names, as partition `p` has it.
-pub fn place_of(slot: u8, p: usize) -> usize
-    ensures { λ r. ⌜ r ≡ placeOf slot p ⌝ }
+pub fn key_index(slot: u8, p: usize) -> usize
+    ensures { λ r. ⌜ r ≡ keyIndex slot p ⌝ }
 {
     match slot {
-        0 => of_four(0, p),
-        1 => of_four(4, p),
-        2 => of_four(8, p),
+        0 => index_among_four(0, p),
+        1 => index_among_four(4, p),
+        2 => index_among_four(8, p),
         3 => 12,
         4 => 13,
         _ => 14,
@@ -29,19 +29,19 @@ pub fn place_of(slot: u8, p: usize) -> usize
 
 // The key that operation 7 sets under a slot's key: slot 4 sets the drive key, slot 3 partition `a`'s, slot 2 working
 // key `a` of partition `p`.
-fn target_of(slot: u8, p: usize, a: usize) -> usize
-    ensures { λ r. ⌜ r ≡ targetOf slot p a ⌝ }
+fn target_index(slot: u8, p: usize, a: usize) -> usize
+    ensures { λ r. ⌜ r ≡ targetIndex slot p a ⌝ }
 {
     if slot == 4 {
         return 12;
     }
     if slot == 3 {
-        return of_four(8, a);
+        return index_among_four(8, a);
     }
     if a == 0 {
-        return of_four(0, p);
+        return index_among_four(0, p);
     }
-    of_four(4, p)
+    index_among_four(4, p)
 }
 
 // Whether key `j` was ever set; false where there is none.
@@ -56,8 +56,8 @@ pub fn is_set(keys: &[u8], j: usize) -> bool
 }
 
 // Key `j` becomes `new`. Where there is none, or a length does not fit, nothing is written.
-fn put_at(keys: &mut [u8], j: usize, new: &[u8])
-    ensures { λ _. ⌜ now (keys .exit) ≡ keyPutAt j (now (new .entry)) (now (keys .entry)) ⌝ }
+fn store_at(keys: &mut [u8], j: usize, new: &[u8])
+    ensures { λ _. ⌜ now (keys .exit) ≡ keyStored j (now (new .entry)) (now (keys .entry)) ⌝ }
 {
     let fits = (j < 14) & (keys.len() == 462) & (new.len() == 32);
     if !fits {
@@ -68,22 +68,22 @@ fn put_at(keys: &mut [u8], j: usize, new: &[u8])
 }
 
 // Operation 7 under a slot's key: the key that it sets becomes `new`.
-pub fn put_key(keys: &mut [u8], slot: u8, p: usize, a: usize, new: &[u8])
-    ensures { λ _. ⌜ now (keys .exit) ≡ keyPutAt (targetOf slot p a) (now (new .entry)) (now (keys .entry)) ⌝ }
+pub fn store_key(keys: &mut [u8], slot: u8, p: usize, a: usize, new: &[u8])
+    ensures { λ _. ⌜ now (keys .exit) ≡ keyStored (targetIndex slot p a) (now (new .entry)) (now (keys .entry)) ⌝ }
 {
-    put_at(keys, target_of(slot, p, a), new);
+    store_at(keys, target_index(slot, p, a), new);
 }
 
 // A fresh drive's keys: master key and drive key are set, no other is. Where either is not 32 bytes, none is.
 pub fn new_keys(master: &[u8], drive: &[u8]) -> [u8; 462]
-    ensures { λ r. ⌜ r ≡ freshKeys (now (master .entry)) (now (drive .entry)) ⌝ }
+    ensures { λ r. ⌜ r ≡ formattedKeys (now (master .entry)) (now (drive .entry)) ⌝ }
 {
     let mut keys = [0u8; 462];
     let fits = (master.len() == 32) & (drive.len() == 32);
     if !fits {
         return keys;
     }
-    put_at(&mut keys, 12, drive);
-    put_at(&mut keys, 13, master);
+    store_at(&mut keys, 12, drive);
+    store_at(&mut keys, 13, master);
     keys
 }

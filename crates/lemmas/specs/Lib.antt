@@ -3,7 +3,7 @@ pub mod Tests
 pub mod Lists
 pub mod ListLaws
 pub mod Parts
-pub mod Rows
+pub mod RowTable
 pub mod BigEndian
 pub mod Fill
 pub mod Bits

@@ -38,9 +38,9 @@ pub both : {a b : Bool} → a ≡ true → b ≡ true → (a && b) ≡ true
 both {a} {b} e f = rw e f
 
 -- a test that fails, the first part of it passing
-pub and-false : (a b : Bool) → a ≡ true → (a && b) ≡ false → b ≡ false
-and-false true b e h = h
-and-false false b e h = absurd (false≢true e)
+pub and-rest-false : (a b : Bool) → a ≡ true → (a && b) ≡ false → b ≡ false
+and-rest-false true b e h = h
+and-rest-false false b e h = absurd (false≢true e)
 
 pub or-l : (a b : Bool) → (a || b) ≡ false → a ≡ false
 or-l true b e = e

@@ -11,7 +11,7 @@ pub fn pick(applies: bool, row: u32, rest: u32) -> u32
 }
 
 // The smaller of two counts: a count over an array's length is taken for that length.
-pub fn within(count: usize, most: usize) -> usize
+pub fn smaller(count: usize, most: usize) -> usize
     ensures { λ r. ⌜ r ≡ min count most ⌝ }
 {
     if count < most { count } else { most }

@@ -15,12 +15,12 @@ use Rattle.rules.specs.Drive.{lives}
 
 -- "a memory holds, in order of grant, exactly its entries": slots, holders, times and counts, one number of each entry
 -- in each, as many entries as the shortest of the four has numbers
-unfoldable pub entries : List ℕ → List ℕ → List ℕ → List ℕ → List Entry
-entries [] h t n = []
-entries (a ∷ s) [] t n = []
-entries (a ∷ s) (b ∷ h) [] n = []
-entries (a ∷ s) (b ∷ h) (c ∷ t) [] = []
-entries (a ∷ s) (b ∷ h) (c ∷ t) (d ∷ n) = record { slot = a; holder = b; time = c; count = d } ∷ entries s h t n
+unfoldable pub entriesIn : List ℕ → List ℕ → List ℕ → List ℕ → List Entry
+entriesIn [] h t n = []
+entriesIn (a ∷ s) [] t n = []
+entriesIn (a ∷ s) (b ∷ h) [] n = []
+entriesIn (a ∷ s) (b ∷ h) (c ∷ t) [] = []
+entriesIn (a ∷ s) (b ∷ h) (c ∷ t) (d ∷ n) = record { slot = a; holder = b; time = c; count = d } ∷ entriesIn s h t n
 
 -- the smallest of four: how many entries four lists of these lengths make
 abbrev pub fewest : ℕ → ℕ → ℕ → ℕ → ℕ
@@ -29,8 +29,8 @@ fewest a b c d = min (min a b) (min c d)
 -- what a purge at a mark makes of the four lists s, h, t, n: a, b, c, d, whose first r entries are those that live, in their
 -- order; from place r on each list is as it was
 pub record Purged (mark : ℕ) (s h t n a b c d : List ℕ) (r : ℕ) : Type 0 where
-  pub count : r ≡ length (keep (lives mark) (entries s h t n))
-  pub front : take r (entries a b c d) ≡ keep (lives mark) (entries s h t n)
+  pub count : r ≡ length (keep (lives mark) (entriesIn s h t n))
+  pub front : take r (entriesIn a b c d) ≡ keep (lives mark) (entriesIn s h t n)
   pub slots : drop r a ≡ drop r s
   pub holders : drop r b ≡ drop r h
   pub times : drop r c ≡ drop r t
@@ -54,5 +54,5 @@ outlived mark e = go (decLt (e .time) (mark - 5000))
     go (yes h) = rw (lives-no mark e h, lt-ltb (e .time) (mark - 5000) h)
     go (no h) = rw (lives-yes mark e (omega arith), le-ltb (e .time) (mark - 5000) (omega arith))
 
-pub fresh : (mark : ℕ) (l : List Entry) → some? (λ (e : Entry). not (lives mark e)) l ≡ false → keep (lives mark) l ≡ l
-fresh mark l h = keep-all (lives mark) l h
+pub keep-living : (mark : ℕ) (l : List Entry) → some? (λ (e : Entry). not (lives mark e)) l ≡ false → keep (lives mark) l ≡ l
+keep-living mark l h = keep-all (lives mark) l h

@@ -11,7 +11,7 @@ use Rattle.lemmas.specs.Lists.{keep}
 use Rattle.lemmas.specs.Loops.{keep-took, keep-passed}
 use Rattle.rules.specs.declared.Entry.{Entry}
 use Rattle.rules.specs.Drive.{lives}
-use Rattle.memory.specs.Memory.{entries, noEntry, lives-yes, lives-no}
+use Rattle.memory.specs.Memory.{entriesIn, noEntry, lives-yes, lives-no}
 use Rattle.memory.specs.Entries.{entries-at, entries-set, entries-drop}
 
 -- a store at k leaves what stands behind it
@@ -51,31 +51,31 @@ module _ {A : Type 0} (t : A → Bool) (es xs : List A) (i k : ℕ) (d : A) (low
 -- ---- one turn over the four lists s, h, t, n of a memory
 -- lists that agree from k on have the same entries from k on
 pub back-of : (s h t n a b c d : List ℕ) (k : ℕ) → drop k a ≡ drop k s → drop k b ≡ drop k h → drop k c ≡ drop k t
-    → drop k d ≡ drop k n → drop k (entries a b c d) ≡ drop k (entries s h t n)
+    → drop k d ≡ drop k n → drop k (entriesIn a b c d) ≡ drop k (entriesIn s h t n)
 back-of s h t n a b c d k es eh et en = sym (entries-drop k a b c d) ∙ rw (es, eh, et, en) (entries-drop k s h t n)
 
 module _ (mark : ℕ) (es : List Entry) (s h t n : List ℕ) (i k : ℕ) (low : k ≤ i) (more : i < length es)
-    (same : length (entries s h t n) ≡ length es) (front : take k (entries s h t n) ≡ keep (lives mark) (take i es))
-    (back : drop k (entries s h t n) ≡ drop k es) where
-  here : getD (entries s h t n) i noEntry
+    (same : length (entriesIn s h t n) ≡ length es) (front : take k (entriesIn s h t n) ≡ keep (lives mark) (take i es))
+    (back : drop k (entriesIn s h t n) ≡ drop k es) where
+  here : getD (entriesIn s h t n) i noEntry
       ≡ record { slot = getD s i 0; holder = getD h i 0; time = getD t i 0; count = getD n i 0 }
   here = entries-at s h t n i (omega arith)
 
-  stored : entries (set s k (getD s i 0)) (set h k (getD h i 0)) (set t k (getD t i 0)) (set n k (getD n i 0))
-      ≡ set (entries s h t n) k (getD (entries s h t n) i noEntry)
+  stored : entriesIn (set s k (getD s i 0)) (set h k (getD h i 0)) (set t k (getD t i 0)) (set n k (getD n i 0))
+      ≡ set (entriesIn s h t n) k (getD (entriesIn s h t n) i noEntry)
   stored =
       entries-set s h t n k (getD s i 0) (getD h i 0) (getD t i 0) (getD n i 0)
-      ∙ ap (λ (e : Entry). set (entries s h t n) k e) (sym here)
+      ∙ ap (λ (e : Entry). set (entriesIn s h t n) k e) (sym here)
 
   pub kept-front : mark - 5000 ≤ getD t i 0
-      → take (k + 1) (entries (set s k (getD s i 0)) (set h k (getD h i 0)) (set t k (getD t i 0)) (set n k (getD n i 0)))
+      → take (k + 1) (entriesIn (set s k (getD s i 0)) (set h k (getD h i 0)) (set t k (getD t i 0)) (set n k (getD n i 0)))
       ≡ keep (lives mark) (take (i + 1) es)
   kept-front p =
       ap (take (k + 1)) stored
-      ∙ moves-front (lives mark) es (entries s h t n) i k noEntry low same front back more
+      ∙ moves-front (lives mark) es (entriesIn s h t n) i k noEntry low same front back more
       (rw here (lives-yes mark (record { slot = getD s i 0; holder = getD h i 0; time = getD t i 0; count = getD n i 0 }) p))
 
-  pub not-kept : getD t i 0 < mark - 5000 → take k (entries s h t n) ≡ keep (lives mark) (take (i + 1) es)
+  pub not-kept : getD t i 0 < mark - 5000 → take k (entriesIn s h t n) ≡ keep (lives mark) (take (i + 1) es)
   not-kept p =
-      moves-past (lives mark) es (entries s h t n) i k noEntry low same front back more
+      moves-past (lives mark) es (entriesIn s h t n) i k noEntry low same front back more
       (rw here (lives-no mark (record { slot = getD s i 0; holder = getD h i 0; time = getD t i 0; count = getD n i 0 }) p))

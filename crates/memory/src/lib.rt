@@ -8,15 +8,15 @@ ghost use lib.Dec.{ltb};
 ghost use lib.ListN.{length, take};
 ghost use Rattle.lemmas.specs.Lists.{some?};
 ghost use Rattle.rules.specs.Drive.{sameEntry};
-ghost use Rattle.memory.specs.Memory.{entries, fewest, Purged};
-use lemmas::within;
+ghost use Rattle.memory.specs.Memory.{entriesIn, fewest, Purged};
+use lemmas::smaller;
 use rules::Entry;
 
 // How many entries there are: the shortest of four lengths.
 fn shortest(a: usize, b: usize, c: usize, d: usize) -> usize
     ensures { λ r. ⌜ r ≡ fewest a b c d ⌝ }
 {
-    within(within(a, b), within(c, d))
+    smaller(smaller(a, b), smaller(c, d))
 }
 
 // The lowest time that is not outlived at a mark; T + 5,000 could pass 64 bits.
@@ -130,7 +130,7 @@ fn same_entry(a: Entry, b: Entry) -> bool
 // Whether a memory holds the nonce of an entry.
 pub fn holds(slots: &[u8], holders: &[u32], times: &[u64], counts: &[u32], e: Entry) -> bool
     ensures { λ r. ⌜ r ≡ some? (sameEntry e)
-        (entries (now (slots .entry)) (now (holders .entry)) (now (times .entry)) (now (counts .entry))) ⌝ }
+        (entriesIn (now (slots .entry)) (now (holders .entry)) (now (times .entry)) (now (counts .entry))) ⌝ }
 {
     let n = shortest(slots.len(), holders.len(), times.len(), counts.len());
     let mut r = false;

@@ -8,9 +8,9 @@ use Rattle.lemmas.specs.Tests.{_is_, _under_}
 use Rattle.lemmas.specs.Lists.{change}
 use Rattle.rules.specs.declared.Object.{Object}
 use Rattle.rules.specs.Drive as rules
-use Rattle.rules.specs.Drive.{changed, mostObjects}
+use Rattle.rules.specs.Drive.{partitionWith, mostObjects}
 use Rattle.rules.specs.Operations.{withVersion, deleted}
-use Rattle.state.specs.Changes.{Content, contentOf, raisedIn, joinedIn, removedIn}
+use Rattle.state.specs.Changes.{Content, contentOf, raisedContent, createdContent, deletedContent}
 use Rattle.rules.specs.declared.Operation.{Operation}
 use Rattle.rules.specs.declared.Operation.the-variants.{Read, Write, Look, Raise, Create, Delete, SetKey}
 
@@ -18,12 +18,12 @@ use Rattle.rules.specs.declared.Operation.the-variants.{Read, Write, Look, Rais
 -- 4. "object or partition gets the next version"
 unfoldable pub raisedTo : ℕ → ℕ → rules.Partition Object → rules.Partition Object
 raisedTo v n p =
-    changed (cond (n is 0) v (p .version)) v (cond (n is 0) (p .objects)
+    partitionWith (cond (n is 0) v (p .version)) v (cond (n is 0) (p .objects)
     (change Object.number n (withVersion v) (p .objects))) p
 
 -- 5. the object joins, where there is room
 unfoldable pub createdTo : Object → rules.Partition Object → rules.Partition Object
-createdTo o p = changed (p .version) (o .version)
+createdTo o p = partitionWith (p .version) (o .version)
     (cond (length (p .objects) under mostObjects) (p .objects ++ (o ∷ [])) (p .objects)) p
 
 -- all seven; 6, "the object goes", is the rules' own `deleted`
@@ -38,12 +38,12 @@ partitionAfter Delete n v start p = deleted n p
 partitionAfter (SetKey target) n v start p = p
 
 -- ---- what its table then says; the four others leave it
-abbrev pub appliedIn : Operation → ℕ → ℕ → ℕ → List ℕ → Content
-appliedIn (Read offset length) n v start t = contentOf t
-appliedIn (Write offset length) n v start t = contentOf t
-appliedIn Look n v start t = contentOf t
-appliedIn Raise n v start t = raisedIn n v t
-appliedIn (Create number size) n v start t =
-    joinedIn (record { number = number; version = v; size = size; start = start }) t
-appliedIn Delete n v start t = removedIn n t
-appliedIn (SetKey target) n v start t = contentOf t
+abbrev pub contentAfter : Operation → ℕ → ℕ → ℕ → List ℕ → Content
+contentAfter (Read offset length) n v start t = contentOf t
+contentAfter (Write offset length) n v start t = contentOf t
+contentAfter Look n v start t = contentOf t
+contentAfter Raise n v start t = raisedContent n v t
+contentAfter (Create number size) n v start t =
+    createdContent (record { number = number; version = v; size = size; start = start }) t
+contentAfter Delete n v start t = deletedContent n t
+contentAfter (SetKey target) n v start t = contentOf t

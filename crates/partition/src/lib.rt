@@ -1,14 +1,14 @@
 // What a granted operation does to its partition's table (document 01, operations 4 to 6). Total.
-ghost use Rattle.state.specs.Changes.{Changed};
-ghost use Rattle.partition.specs.Partition.{appliedIn};
+ghost use Rattle.state.specs.Changes.{ChangedTo};
+ghost use Rattle.partition.specs.Partition.{contentAfter};
 use rules::Object;
 use rules::Operation;
 
 // Does what an operation on the object of a number does to its partition's table, `version` being the new version and
 // `start` a new extent's start. Four operations leave it.
 pub fn apply(table: &mut [u32], o: Operation, number: u32, version: u32, start: u32)
-    ensures { λ _. ⌜ Changed (now (table .entry)) (now (table .exit))
-        (appliedIn o number version start (now (table .entry))) ⌝ }
+    ensures { λ _. ⌜ ChangedTo (now (table .entry)) (now (table .exit))
+        (contentAfter o number version start (now (table .entry))) ⌝ }
 {
     match o {
         Operation::Read {
@@ -28,9 +28,9 @@ pub fn apply(table: &mut [u32], o: Operation, number: u32, version: u32, start: 
                 size: size,
                 start: start,
             };
-            state::join(table, object);
+            state::create(table, object);
         }
-        Operation::Delete => state::remove(table, number),
+        Operation::Delete => state::delete(table, number),
         Operation::SetKey { target: _ } => {}
     }
 }

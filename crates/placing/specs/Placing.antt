@@ -35,16 +35,16 @@ use Rattle.placing.specs.declared.Place.{Place}
 use Rattle.placing.specs.declared.Place.the-variants.{At, Nowhere}
 
 -- the start that an answer names; none: row 20
-abbrev pub told : Place → Option ℕ
-told (At s) = some s
-told Nowhere = none
+abbrev pub placeOption : Place → Option ℕ
+placeOption (At s) = some s
+placeOption Nowhere = none
 
 -- a run as a gap, and as the best gap so far, if there is one
 abbrev pub gapOf : Run → Gap
 gapOf g = record { from = g .from; to = g .to }
 
-abbrev pub held : Run → Option Gap
-held g = cond (g .vacant) (some (gapOf g)) none
+abbrev pub gapOption : Run → Option Gap
+gapOption g = cond (g .vacant) (some (gapOf g)) none
 
 -- the bytes from place i up to the next area or the quarter's end
 unfoldable pub runFrom : ℕ → List Object → ℕ → Run
@@ -130,14 +130,14 @@ module _ (step q B : ℕ) (objects : List Object) (best : Run) (i : ℕ) where
       and-l (free objects i) (i under next q objects i) (and-l s f (and-l (s && f) w h))
 
   pub winner : wins step B (runFrom q objects i) best ≡ true
-      → held (runFrom q objects i) ≡ tried step q objects B (held best) i
+      → gapOption (runFrom q objects i) ≡ tried step q objects B (gapOption best) i
   unfolding wins tried runFrom
   winner h =
       let g = gapFrom q objects i in
       ap (λ (b : Bool). cond b (some g) none) (vacant h)
       ∙ step-won g (gapOf best) (starts q objects i && fits step B g) (best .vacant) (better g (gapOf best)) refl h
 
-  pub loser : wins step B (runFrom q objects i) best ≡ false → held best ≡ tried step q objects B (held best) i
+  pub loser : wins step B (runFrom q objects i) best ≡ false → gapOption best ≡ tried step q objects B (gapOption best) i
   unfolding wins tried runFrom
   loser h =
       let g = gapFrom q objects i in

@@ -6,8 +6,8 @@ ghost use Prim.Native.Nat.{_+_, _-_, _^_, _≤_, min};
 ghost use lib.Dec.{leb};
 ghost use Rattle.lemmas.specs.Tests.{_under_};
 ghost use Rattle.rules.specs.BestFit.{spot, better, bestFit};
-ghost use Rattle.state.specs.Table.{heldIn};
-ghost use Rattle.placing.specs.Placing.{told, gapOf, held, runFrom, wins, tried, chosen};
+ghost use Rattle.state.specs.Table.{objectsIn};
+ghost use Rattle.placing.specs.Placing.{placeOption, gapOf, gapOption, runFrom, wins, tried, chosen};
 use rules::Object;
 
 // Bytes from one place up to another; vacant where they are free.
@@ -43,7 +43,7 @@ fn is_outside(o: Object, at: u64) -> bool
 
 // The bytes from a place up to the next extent or the quarter's end; vacant where the first of them is in no extent.
 fn run_from(table: &[u32], quarter: u32, from: u64) -> Run
-    ensures { λ r. ⌜ r ≡ runFrom quarter (heldIn (now (table .entry))) from ⌝ }
+    ensures { λ r. ⌜ r ≡ runFrom quarter (objectsIn (now (table .entry))) from ⌝ }
 {
     let n = state::object_count(table);
     let mut vacant = true;
@@ -102,7 +102,7 @@ fn is_winner(step: u32, size: u32, g: Run, best: Run) -> bool
 // The better of the best so far and the gap from a place on.
 fn better_of(step: u32, quarter: u32, size: u32, table: &[u32], best: Run, from: u64) -> Run
     requires { ⌜ (from ≤ 2 ^ 33) × (best .from ≤ 2 ^ 33) × (spot step (gapOf best) ≤ quarter) ⌝ }
-    ensures { λ r. ⌜ (held r ≡ tried step quarter (heldIn (now (table .entry))) size (held best) from)
+    ensures { λ r. ⌜ (gapOption r ≡ tried step quarter (objectsIn (now (table .entry))) size (gapOption best) from)
         × (r .from ≤ 2 ^ 33) × (spot step (gapOf r) ≤ quarter) ⌝ }
 {
     let g = run_from(table, quarter, from);
@@ -114,7 +114,7 @@ fn better_of(step: u32, quarter: u32, size: u32, table: &[u32], best: Run, from:
 
 // The best gap.
 fn best_gap(step: u32, quarter: u32, size: u32, table: &[u32]) -> Run
-    ensures { λ r. ⌜ (held r ≡ chosen step quarter (heldIn (now (table .entry))) size) × (r .from ≤ 2 ^ 33)
+    ensures { λ r. ⌜ (gapOption r ≡ chosen step quarter (objectsIn (now (table .entry))) size) × (r .from ≤ 2 ^ 33)
         × (spot step (gapOf r) ≤ quarter) ⌝ }
 {
     let none = Run {
@@ -142,7 +142,7 @@ fn best_gap(step: u32, quarter: u32, size: u32, table: &[u32]) -> Run
 
 // The start of the smallest gap that takes the size from a multiple of the step on, lowest start among equals.
 pub fn best_fit(step: u32, quarter: u32, size: u32, table: &[u32]) -> Place
-    ensures { λ r. ⌜ told r ≡ bestFit step quarter (heldIn (now (table .entry))) size ⌝ }
+    ensures { λ r. ⌜ placeOption r ≡ bestFit step quarter (objectsIn (now (table .entry))) size ⌝ }
 {
     let g = best_gap(step, quarter, size, table);
     if g.vacant {

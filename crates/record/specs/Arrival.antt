@@ -18,21 +18,21 @@ wrong input =
     || (leb recordHead (length input) && frameLength input over 65_536)
 
 -- what there is to know: that the record is whole, that it never will be, its clock and its frame's length
-pub record Told : Type 0 where
+pub record RecordFacts : Type 0 where
   pub whole : Bool
   pub hopeless : Bool
   pub clock : ℕ
   pub size : ℕ
 
 -- each answer's values
-abbrev pub told : Arrived → Told
-told (Whole clock size) = record { whole = true; hopeless = false; clock = clock; size = size }
-told Broken = record { whole = false; hopeless = true; clock = 0; size = 0 }
-told Short = record { whole = false; hopeless = false; clock = 0; size = 0 }
+abbrev pub factsOf : Arrived → RecordFacts
+factsOf (Whole clock size) = record { whole = true; hopeless = false; clock = clock; size = size }
+factsOf Broken = record { whole = false; hopeless = true; clock = 0; size = 0 }
+factsOf Short = record { whole = false; hopeless = false; clock = 0; size = 0 }
 
 -- and document 01's, of the bytes that have arrived
-unfoldable pub toldOf : List ℕ → Told
-toldOf input = record {
+unfoldable pub recordFacts : List ℕ → RecordFacts
+recordFacts input = record {
   whole = not (broken input);
   hopeless = wrong input;
   clock = cond (broken input) 0 (callIn input .clock);

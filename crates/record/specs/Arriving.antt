@@ -10,12 +10,12 @@ use native.Mathlib.Omega.{arith}
 use lib.Dec.{leb, eqb}
 use lib.ListN.{length}
 use borrow.Author.Tests.{lt-ltb, le-ltb, le-leb, ltb-false, eqb-true, not-true, not-false}
-use Rattle.lemmas.specs.Tests.{_over_, _under_, _isnt_, and-r, and-false, or-l, or-r, or-cases, or-intro-l, or-intro-r}
+use Rattle.lemmas.specs.Tests.{_over_, _under_, _isnt_, and-r, and-rest-false, or-l, or-r, or-cases, or-intro-l, or-intro-r}
 use Rattle.lemmas.specs.Lists.{part}
 use Rattle.lemmas.specs.BigEndian.{numberAt}
 use Rattle.rules.specs.Program.{recordMagic, recordHead, frameLength, callIn, broken}
 use Rattle.record.specs.declared.Arrived.the-variants.{Whole, Broken, Short}
-use Rattle.record.specs.Arrival.{wrong, Told, told, toldOf}
+use Rattle.record.specs.Arrival.{wrong, RecordFacts, factsOf, recordFacts}
 
 -- the four tests of a broken record, and those of a wrong one
 abbrev few : List ℕ → Bool
@@ -67,9 +67,9 @@ frame-short s h = or-intro-r (few s || other s || long s) (lacks s) (lt-ltb (len
 -- and what makes it whole
 pub not-wrong : (s : List ℕ) → wrong s ≡ false → recordHead ≤ length s → (other s ≡ false) × (long s ≡ false)
 not-wrong s w h = (
-  and-false (leb 2 (length s)) (other s) (le-leb 2 (length s) (omega arith))
+  and-rest-false (leb 2 (length s)) (other s) (le-leb 2 (length s) (omega arith))
       (or-l (leb 2 (length s) && other s) (leb recordHead (length s) && long s) w),
-  and-false (leb recordHead (length s)) (long s) (le-leb recordHead (length s) h)
+  and-rest-false (leb recordHead (length s)) (long s) (le-leb recordHead (length s) h)
       (or-r (leb 2 (length s) && other s) (leb recordHead (length s) && long s) w),
 )
 
@@ -81,18 +81,18 @@ all-there s w h k =
     neither (neither (neither (le-ltb (length s) recordHead h) (n .0)) (n .1))
     (le-ltb (length s) (recordHead + frameLength s) k)
 
--- ---- what is told of it
-pub told-broken : (s : List ℕ) (b : Bool) → broken s ≡ true → wrong s ≡ b
-    → toldOf s ≡ record { whole = false; hopeless = b; clock = 0; size = 0 }
-unfolding toldOf
-told-broken s b e w = rw (e, w) refl
+-- ---- the facts of it
+pub facts-when-broken : (s : List ℕ) (b : Bool) → broken s ≡ true → wrong s ≡ b
+    → recordFacts s ≡ record { whole = false; hopeless = b; clock = 0; size = 0 }
+unfolding recordFacts
+facts-when-broken s b e w = rw (e, w) refl
 
-pub told-whole : (s : List ℕ) → broken s ≡ false → wrong s ≡ false
-    → toldOf s ≡ record { whole = true; hopeless = false; clock = callIn s .clock; size = frameLength s }
-unfolding toldOf
-told-whole s e w = rw (e, w) refl
+pub facts-when-whole : (s : List ℕ) → broken s ≡ false → wrong s ≡ false
+    → recordFacts s ≡ record { whole = true; hopeless = false; clock = callIn s .clock; size = frameLength s }
+unfolding recordFacts
+facts-when-whole s e w = rw (e, w) refl
 
--- ---- what each answer tells
+-- ---- the facts of each answer
 -- a whole record: its clock and its frame are document 01's, and the frame lies within the bytes that are there
 pub record IsWhole (s : List ℕ) (clock size : ℕ) : Type 0 where
   pub whole : broken s ≡ false
@@ -118,25 +118,25 @@ whole-facts s e = record {
   fits = ltb-false (length s) (recordHead + frameLength s) (or-r (few s || other s || long s) (lacks s) e);
 }
 
-pub whole-told : (s : List ℕ) (clock size : ℕ) → told (Whole clock size) ≡ toldOf s → IsWhole s clock size
-unfolding toldOf
-whole-told s clock size e =
-    let b : broken s ≡ false = not-true (broken s) (sym (ap Told.whole e)) in
-    let ec : clock ≡ callIn s .clock = ap Told.clock e ∙ (rw b) in
-    let es : size ≡ frameLength s = ap Told.size e ∙ (rw b) in
+pub facts-of-whole : (s : List ℕ) (clock size : ℕ) → factsOf (Whole clock size) ≡ recordFacts s → IsWhole s clock size
+unfolding recordFacts
+facts-of-whole s clock size e =
+    let b : broken s ≡ false = not-true (broken s) (sym (ap RecordFacts.whole e)) in
+    let ec : clock ≡ callIn s .clock = ap RecordFacts.clock e ∙ (rw b) in
+    let es : size ≡ frameLength s = ap RecordFacts.size e ∙ (rw b) in
     rw (ec, es) (whole-facts s b)
 
-pub broken-told : (s : List ℕ) → told Broken ≡ toldOf s → wrong s ≡ true
-unfolding toldOf
-broken-told s e = sym (ap Told.hopeless e)
+pub facts-of-broken : (s : List ℕ) → factsOf Broken ≡ recordFacts s → wrong s ≡ true
+unfolding recordFacts
+facts-of-broken s e = sym (ap RecordFacts.hopeless e)
 
 -- a record of which more must be read is shorter than the longest record
-pub short-told : (s : List ℕ) → told Short ≡ toldOf s
+pub facts-of-short : (s : List ℕ) → factsOf Short ≡ recordFacts s
     → (broken s ≡ true) × (wrong s ≡ false) × (length s < recordHead + 65_536)
-unfolding toldOf
-short-told s e =
-    let b : broken s ≡ true = not-false (broken s) (sym (ap Told.whole e)) in
-    let w : wrong s ≡ false = sym (ap Told.hopeless e) in
+unfolding recordFacts
+facts-of-short s e =
+    let b : broken s ≡ true = not-false (broken s) (sym (ap RecordFacts.whole e)) in
+    let w : wrong s ≡ false = sym (ap RecordFacts.hopeless e) in
     (b, w, go b w (decLt (length s) recordHead) (decLt (length s) (recordHead + frameLength s)))
   where
     go : broken s ≡ true → wrong s ≡ false → Dec (length s < recordHead) → Dec (length s < recordHead + frameLength s)

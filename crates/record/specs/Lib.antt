@@ -1,3 +1,3 @@
 pub mod Arrival
 pub mod Arriving
-pub mod Stream
+pub mod Printing

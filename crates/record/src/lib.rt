@@ -1,6 +1,6 @@
 // One record of the program's standard input (document 01: mark 4C 49, clock, frame length, frame).
 ghost use mathlib.Core.Path.{_≡_};
-ghost use Rattle.record.specs.Arrival.{wrong, told, toldOf};
+ghost use Rattle.record.specs.Arrival.{wrong, factsOf, recordFacts};
 
 // The bytes before the frame: the two of the mark, eight of the clock, four of the frame's length.
 pub const HEAD_SIZE: usize = 14;
@@ -27,7 +27,7 @@ pub fn is_wrong(input: &[u8]) -> bool
 
 // The record that starts where input does.
 pub fn arrival(input: &[u8]) -> Arrived
-    ensures { λ r. ⌜ told r ≡ toldOf (now (input .entry)) ⌝ }
+    ensures { λ r. ⌜ factsOf r ≡ recordFacts (now (input .entry)) ⌝ }
 {
     if is_wrong(input) {
         return Arrived::Broken;

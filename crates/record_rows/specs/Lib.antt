@@ -1,3 +1,3 @@
 -- What the crate's contracts say beyond document 01's rows.
 pub mod Refusals
-pub mod Laws
+pub mod BadRecords

@@ -4,7 +4,7 @@ use mathlib.Core.Bool.{Bool, _||_}
 use mathlib.Core.List.{List, [], _∷_}
 use Prim.Native.Nat.{ℕ, _+_}
 use Rattle.lemmas.specs.Tests.{_isnt_}
-use Rattle.lemmas.specs.Rows.{Row, line, firstRow}
+use Rattle.lemmas.specs.RowTable.{Row, line, firstRow}
 use Rattle.rules.specs.declared.Credential.{Credential}
 use Rattle.rules.specs.declared.Request.{Request}
 use Rattle.rules.specs.Frame.{credentialMagic}

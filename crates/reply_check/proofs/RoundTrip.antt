@@ -4,7 +4,7 @@ use mathlib.Core.Path.{_∙_, _≡_, ap}
 use mathlib.Core.List.{List}
 use Prim.Native.Nat.{ℕ}
 use lib.ListN.{take}
-use Rattle.lemmas.specs.Rows.{firstRow}
+use Rattle.lemmas.specs.RowTable.{firstRow}
 use Rattle.rules.specs.Client.{buildRows, Checked, frameOf}
 use Rattle.rules.specs.Drive.{Drive, refresh}
 use Rattle.rules.specs.Frame.{fields, operationOf}

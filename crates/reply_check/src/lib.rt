@@ -4,7 +4,7 @@ ghost use mathlib.Core.Bool.{not};
 ghost use Prim.Native.Nat.{_+_};
 ghost use lib.ListN.{length, take};
 ghost use Rattle.lemmas.specs.Lists.{part, same};
-ghost use Rattle.lemmas.specs.Rows.{firstRow};
+ghost use Rattle.lemmas.specs.RowTable.{firstRow};
 ghost use Rattle.digest.specs.Hmac.{hmac};
 ghost use Rattle.rules.specs.Operations.{replyCovered};
 ghost use Rattle.rules.specs.Client.{checkRows};

@@ -9,15 +9,15 @@ use Rattle.lemmas.specs.Lists.{part, splice}
 use Rattle.octets.specs.Numbers.{numberPut}
 use Rattle.rules.specs.declared.Operation.{Operation}
 use Rattle.rules.specs.declared.Operation.the-variants.{Read, Write, Look, Raise, Create, Delete, SetKey}
-use Rattle.effect.specs.declared.Site.{Site}
-use Rattle.effect.specs.Effect.{objectFrom}
+use Rattle.effect.specs.declared.GrantContext.{GrantContext}
+use Rattle.effect.specs.Effect.{objectStart}
 
 -- the reply space with the result from place 8 on
-abbrev pub resultPut : Operation → Site → List ℕ → List ℕ → List ℕ
+abbrev pub resultPut : Operation → GrantContext → List ℕ → List ℕ → List ℕ
 resultPut (Read a b) s m r =
-    cond (leb (objectFrom s + a + b) (length m) && leb (8 + b) (length r)) (splice r 8 (part m (objectFrom s + a) b)) r
+    cond (leb (objectStart s + a + b) (length m) && leb (8 + b) (length r)) (splice r 8 (part m (objectStart s + a) b)) r
 resultPut (Write a b) s m r = r
-resultPut Look s m r = numberPut (numberPut r 8 4 (s .told)) 12 4 (s .version)
+resultPut Look s m r = numberPut (numberPut r 8 4 (s .looksize)) 12 4 (s .version)
 resultPut Raise s m r = numberPut r 8 4 (s .next)
 resultPut (Create number size) s m r = numberPut r 8 4 (s .next)
 resultPut Delete s m r = r

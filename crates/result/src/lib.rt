@@ -1,11 +1,11 @@
 // The result of a granted operation, in the reply. Where it does not fit, nothing is written.
 ghost use mathlib.Core.Path.{_≡_};
 ghost use Rattle.result.specs.Result.{resultPut};
-use effect::Site;
+use effect::GrantContext;
 use rules::Operation;
 
 // The result goes into the reply after its eight-byte head.
-pub fn put_result(reply: &mut [u8], medium: &[u8], o: Operation, s: Site)
+pub fn put_result(reply: &mut [u8], medium: &[u8], o: Operation, s: GrantContext)
     ensures { λ _. ⌜ now (reply .exit) ≡ resultPut o s (now (medium .entry)) (now (reply .entry)) ⌝ }
 {
     match o {
@@ -18,7 +18,7 @@ pub fn put_result(reply: &mut [u8], medium: &[u8], o: Operation, s: Site)
             length: _,
         } => {}
         Operation::Look => {
-            octets::put(reply, 8, 4, s.told as u64);
+            octets::put(reply, 8, 4, s.looksize as u64);
             octets::put(reply, 12, 4, s.version as u64);
         }
         Operation::Raise => octets::put(reply, 8, 4, s.next as u64),

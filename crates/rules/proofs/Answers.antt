@@ -10,7 +10,7 @@ use lib.Dec.{leb}
 use borrow.Author.Tests.{eq-eqb, eqb-false, eqb-true, ne-eqb}
 use Rattle.lemmas.specs.ListLaws.{nth-map}
 use Rattle.lemmas.specs.Lists.{every, keep}
-use Rattle.lemmas.specs.Rows.{clear-zero, firstRow, line, numbered, Row, row-below, row-isnt, row-next, zero-clear}
+use Rattle.lemmas.specs.RowTable.{clear-zero, firstRow, line, numbered, Row, row-below, row-isnt, row-next, zero-clear}
 use Rattle.lemmas.specs.Tests.{_is_, bool-cases}
 use Rattle.rules.specs.Demands.{Demand1, Exact, MarkAndOutlived}
 use Rattle.rules.specs.Drive.{Drive, lives, newHighWater, refresh}

@@ -20,72 +20,72 @@ use Rattle.lemmas.specs.Tests.{_is_, _isnt_}
 use Rattle.rules.specs.declared.Credential.{Credential}
 use Rattle.rules.specs.declared.Entry.{Entry}
 use Rattle.rules.specs.declared.Object.{Object}
-use Rattle.rules.specs.Drive.{changed, Partition, partitionAt, Tables, unused}
+use Rattle.rules.specs.Drive.{partitionWith, Partition, partitionAt, Tables, emptyPartition}
 use Rattle.rules.specs.declared.Operation.{Operation}
 use Rattle.rules.specs.declared.Operation.the-variants.{Create, Delete, Look, Raise, Read, SetKey, Write}
 use Rattle.rules.specs.Frame.{Fields}
 use Rattle.rules.specs.Ledger.{
   bare,
   bareScope,
-  gone,
-  Held,
-  heldVersion,
-  joined,
+  ledgerDeleted,
+  LedgerObject,
+  ledgerWithVersion,
+  ledgerCreated,
   Ledger,
-  ledgerAfter,
+  ledgerPerform,
   ledgerScope,
   numberOf,
-  raisedHere,
+  ledgerRaised,
   tablesOf,
-  written,
-  wrote,
+  ledgerWritten,
+  withBytesWritten,
 }
-use Rattle.rules.specs.Operations.{created, deleted, noObject, perform, placeOf, raised, startOf, withVersion}
+use Rattle.rules.specs.Operations.{created, deleted, noObject, perform, placement, raised, placementStart, withVersion}
 use Rattle.rules.specs.Scope.{withScope, Scope, withMemory}
 
 pub bare-at : (l : Ledger) (p : ℕ) → partitionAt (tablesOf l) p ≡ bare (partitionAt l p)
 unfolding tablesOf
-bare-at l p = nth-map bare (l .partitions) p (unused 0)
+bare-at l p = nth-map bare (l .partitions) p (emptyPartition 0)
 
 objects-with : (p : Partition Object) {a b : List Object} → a ≡ b
-    → changed {A = Object} (p .version) (p .last) a p ≡ changed (p .version) (p .last) b p
-objects-with p e = ap (λ (os : List Object). changed (p .version) (p .last) os p) e
+    → partitionWith {A = Object} (p .version) (p .last) a p ≡ partitionWith (p .version) (p .last) b p
+objects-with p e = ap (λ (os : List Object). partitionWith (p .version) (p .last) os p) e
 
-bare-written : (n offset : ℕ) (new : List ℕ) (p : Partition Held) → bare (written n offset new p) ≡ bare p
-unfolding written wrote
+bare-written : (n offset : ℕ) (new : List ℕ) (p : Partition LedgerObject) → bare (ledgerWritten n offset new p) ≡ bare p
+unfolding ledgerWritten withBytesWritten
 bare-written n offset new p = objects-with (bare p)
-    (change-map-same Held.object numberOf n (wrote offset new) (λ h. refl) (p .objects))
+    (change-map-same LedgerObject.object numberOf n (withBytesWritten offset new) (λ h. refl) (p .objects))
 
-bare-raised : (n : ℕ) (p : Partition Held) → bare (raisedHere n p) ≡ raised n (bare p)
-unfolding raisedHere raised
+bare-raised : (n : ℕ) (p : Partition LedgerObject) → bare (ledgerRaised n p) ≡ raised n (bare p)
+unfolding ledgerRaised raised
 bare-raised n p = objects-with (raised n (bare p)) (go (n is 0))
   where
     go : (b : Bool)
-        → map Held.object (cond b (p .objects) (change numberOf n (heldVersion (p .last + 1)) (p .objects)))
-        ≡ cond b (map Held.object (p .objects)) (change Object.number n (withVersion (p .last + 1))
-        (map Held.object (p .objects)))
+        → map LedgerObject.object (cond b (p .objects) (change numberOf n (ledgerWithVersion (p .last + 1)) (p .objects)))
+        ≡ cond b (map LedgerObject.object (p .objects)) (change Object.number n (withVersion (p .last + 1))
+        (map LedgerObject.object (p .objects)))
     go true = refl
-    go false = change-map Held.object Object.number n (heldVersion (p .last + 1)) (withVersion (p .last + 1))
+    go false = change-map LedgerObject.object Object.number n (ledgerWithVersion (p .last + 1)) (withVersion (p .last + 1))
         (λ h. refl) (p .objects)
 
-bare-joined : (number size start : ℕ) (p : Partition Held)
-    → bare (joined number size start p) ≡ created number size start (bare p)
-unfolding joined created
+bare-joined : (number size start : ℕ) (p : Partition LedgerObject)
+    → bare (ledgerCreated number size start p) ≡ created number size start (bare p)
+unfolding ledgerCreated created
 bare-joined number size start p = objects-with (created number size start (bare p))
-    (map-append Held.object (p .objects) _)
+    (map-append LedgerObject.object (p .objects) _)
 
-bare-gone : (n : ℕ) (p : Partition Held) → bare (gone n p) ≡ deleted n (bare p)
-unfolding gone deleted
-bare-gone n p = objects-with (bare p) (keep-map Held.object (λ (a : Object). a .number isnt n) (p .objects))
+bare-gone : (n : ℕ) (p : Partition LedgerObject) → bare (ledgerDeleted n p) ≡ deleted n (bare p)
+unfolding ledgerDeleted deleted
+bare-gone n p = objects-with (bare p) (keep-map LedgerObject.object (λ (a : Object). a .number isnt n) (p .objects))
 
-pub bare-after : (o : Operation) (s : Scope Held) (l : List Entry) (x : Fields) (m : List ℕ)
-    → perform o (withMemory l (bareScope s)) x m .scope ≡ withMemory l (bareScope (ledgerAfter o s x))
-unfolding ledgerAfter perform startOf placeOf
+pub bare-after : (o : Operation) (s : Scope LedgerObject) (l : List Entry) (x : Fields) (m : List ℕ)
+    → perform o (withMemory l (bareScope s)) x m .scope ≡ withMemory l (bareScope (ledgerPerform o s x))
+unfolding ledgerPerform perform placementStart placement
 bare-after (Read a b) s l x m = refl
 bare-after (Write a b) s l x m = rw (bare-written (x .cred .object) a (x .payload) (s .partition)) refl
 bare-after Look s l x m = refl
 bare-after Raise s l x m = rw (bare-raised (x .cred .object) (s .partition)) refl
-bare-after (Create a b) s l x m = rw (bare-joined a b (startOf (bareScope s) b) (s .partition)) refl
+bare-after (Create a b) s l x m = rw (bare-joined a b (placementStart (bareScope s) b) (s .partition)) refl
 bare-after Delete s l x m = rw (bare-gone (x .cred .object) (s .partition)) refl
 bare-after (SetKey a) s l x m = refl
 
@@ -94,31 +94,31 @@ abbrev pub sees : ℕ → Ledger → List Entry → Credential → Scope Object
 sees M l es c = withMemory es (bareScope (ledgerScope M l c))
 
 -- and put back
-pub bare-back : (x : Fields) (s : Scope Held) (l : Ledger)
+pub bare-back : (x : Fields) (s : Scope LedgerObject) (l : Ledger)
     → tablesOf (withScope (x .cred) s l) ≡ withScope (x .cred) (bareScope s) (tablesOf l)
 unfolding tablesOf
 bare-back x s l = ap (λ (ps : List (Partition Object)). record { highWater = l .highWater; keys = s .keys; partitions = ps })
-    (update-map bare (λ (old : Partition Held). s .partition) (λ (old : Partition Object). bare (s .partition))
+    (update-map bare (λ (old : Partition LedgerObject). s .partition) (λ (old : Partition Object). bare (s .partition))
     (λ p. refl) (x .cred .partition) (l .partitions))
 
 -- ---- an object that a partition has without the bytes, it has with them
-missing-map : (o : Option Held) → missing (Option·map Held.object o) ≡ missing o
+missing-map : (o : Option LedgerObject) → missing (Option·map LedgerObject.object o) ≡ missing o
 unfolding missing
 missing-map none = refl
 missing-map (some h) = refl
 
-module _ (p : Partition Held) (n : ℕ) where
-  found-is : find Object.number n (bare p .objects) ≡ Option·map Held.object (find numberOf n (p .objects))
-  found-is = find-map Held.object Object.number n (p .objects)
+module _ (p : Partition LedgerObject) (n : ℕ) where
+  found-is : find Object.number n (bare p .objects) ≡ Option·map LedgerObject.object (find numberOf n (p .objects))
+  found-is = find-map LedgerObject.object Object.number n (p .objects)
 
   pub missing-is : missing (find numberOf n (p .objects)) ≡ missing (find Object.number n (bare p .objects))
   missing-is = sym (missing-map (find numberOf n (p .objects))) ∙ ap missing (sym found-is)
 
   pub the-held : missing (find Object.number n (bare p .objects)) ≡ false
-      → (h : Held) × (find numberOf n (p .objects) ≡ some h) × List·Memᴰ h (p .objects) × (numberOf h ≡ n)
+      → (h : LedgerObject) × (find numberOf n (p .objects) ≡ some h) × List·Memᴰ h (p .objects) × (numberOf h ≡ n)
   the-held e = found numberOf n (p .objects) (missing-is ∙ e)
 
   pub the-object : (e : missing (find Object.number n (bare p .objects)) ≡ false)
       → Option·getD (find Object.number n (bare p .objects)) noObject ≡ the-held e .0 .object
   the-object e = ap (λ (o : Option Object). Option·getD o noObject)
-      (found-is ∙ ap (λ (o : Option Held). Option·map Held.object o) (the-held e .1))
+      (found-is ∙ ap (λ (o : Option LedgerObject). Option·map LedgerObject.object o) (the-held e .1))

@@ -9,16 +9,16 @@ use borrow.Author.Tests.{eq-eqb, eqb-false, eqb-true, lt-ltb, ltb-false, ne-eqb,
 use Rattle.lemmas.specs.ListLaws.{every-member, not-found}
 use Rattle.lemmas.specs.Lists.{every, find, missing}
 use Rattle.lemmas.specs.Parts.{length-part}
-use Rattle.lemmas.specs.Rows.{applies, firstRow, line, none-applies, numbered, Row}
-use Rattle.lemmas.specs.Tests.{_is_, _isnt_, _over_, _under_, and-false, and-l, and-r, none-of, or-intro-l, or-l, or-r}
+use Rattle.lemmas.specs.RowTable.{applies, firstRow, line, none-applies, numbered, Row}
+use Rattle.lemmas.specs.Tests.{_is_, _isnt_, _over_, _under_, and-rest-false, and-l, and-r, none-of, or-intro-l, or-l, or-r}
 use Rattle.rules.specs.declared.Object.{Object}
 use Rattle.rules.specs.declared.Request.{Request}
 use Rattle.rules.specs.BestFit.{bestFit, extentStep}
 use Rattle.rules.specs.Drive.{Drive, refresh, sound, soundObject}
 use Rattle.rules.specs.declared.Operation.{Operation}
 use Rattle.rules.specs.declared.Operation.the-variants.{Create, Delete, Look, Raise, Read, SetKey, Write}
-use Rattle.rules.specs.Frame.{Fields, fields, memory, operation, operationOf, operations}
-use Rattle.rules.specs.Operations.{named, objectOf, placeOf, present, startOf}
+use Rattle.rules.specs.Frame.{Fields, fields, memoryIndex, operation, operationOf, operations}
+use Rattle.rules.specs.Operations.{namedObject, objectOf, placement, presentVersion, placementStart}
 use Rattle.rules.specs.Rows.{
   bounds,
   credentialFaults,
@@ -27,7 +27,7 @@ use Rattle.rules.specs.Rows.{
   scopeRows,
   frameRows,
   misfits,
-  moves,
+  isTransfer,
   outsideCredential,
   outsideRequest,
   requestFaults,
@@ -67,8 +67,8 @@ module _ (x : Fields) (clear4 : row4 (x .cred) (x .req) ≡ false) where
         (none-of (credentialFaults (x .cred)) (or-l (outsideCredential (x .cred)) (outsideRequest (x .req)) clear4) 0),
   )
 
-  pub low-memory : memory (x .cred) < 5
-  unfolding memory
+  pub low-memory : memoryIndex (x .cred) < 5
+  unfolding memoryIndex
   low-memory = go (x .cred .slot under 3)
     where
       go : (b : Bool) → cond b (x .cred .partition) 4 < 5
@@ -227,7 +227,7 @@ module _ {f : List ℕ} {s : Scope Object} {space : List ℕ} (g : Clear f s spa
   pub in-four : x .cred .partition < 4
   in-four = low-partition x clear4
 
-  pub in-five : memory (x .cred) < 5
+  pub in-five : memoryIndex (x .cred) < 5
   in-five = low-memory x clear4
 
   pub in-seven : (1 ≤ x .req .operation) × (x .req .operation ≤ 7)
@@ -243,44 +243,44 @@ module _ {f : List ℕ} {s : Scope Object} {space : List ℕ} (g : Clear f s spa
   Is k = (x .req .operation is k) ≡ true
 
   -- an object, not 0, is there, and operations 1 to 6 name its version
-  pub exists : (x .cred .object ≡ 0 → ⊥) → missing (named s (x .cred)) ≡ false
+  pub exists : (x .cred .object ≡ 0 → ⊥) → missing (namedObject s (x .cred)) ≡ false
   unfolding row14
-  exists h = and-false (x .cred .object isnt 0) (missing (named s (x .cred)))
+  exists h = and-rest-false (x .cred .object isnt 0) (missing (namedObject s (x .cred)))
       (ap not (ne-eqb (x .cred .object) 0 h)) clear14
 
-  pub version-is : x .req .operation ≤ 6 → x .cred .version ≡ present s (x .cred)
+  pub version-is : x .req .operation ≤ 6 → x .cred .version ≡ presentVersion s (x .cred)
   unfolding row15
-  version-is h = eqb-true (x .cred .version) (present s (x .cred))
-      (not-false (x .cred .version is present s (x .cred))
-      (and-false (x .req .operation under 7) (x .cred .version isnt present s (x .cred))
+  version-is h = eqb-true (x .cred .version) (presentVersion s (x .cred))
+      (not-false (x .cred .version is presentVersion s (x .cred))
+      (and-rest-false (x .req .operation under 7) (x .cred .version isnt presentVersion s (x .cred))
       (lt-ltb (x .req .operation) 7 (omega arith)) clear15))
 
   -- what is read, written or deleted is an object
   whole : (x .req .operation is 1 || x .req .operation is 2 || x .req .operation is 6) ≡ true
       → x .cred .object ≡ 0 → ⊥
   whole h = eqb-false (x .cred .object) 0
-      (and-false (x .req .operation is 1 || x .req .operation is 2 || x .req .operation is 6)
+      (and-rest-false (x .req .operation is 1 || x .req .operation is 2 || x .req .operation is 6)
       (x .cred .object is 0) h (none-of (misfits (x .cred) (x .req)) clear6 2))
 
   pub deletes-object : operationOf x ≡ Delete → x .cred .object ≡ 0 → ⊥
   deletes-object o = whole (rw (asks-for (x .req) Delete o) refl)
 
   -- an object that a frame for reading or writing names is there, and the bytes are inside it
-  pub there : moves (x .req) ≡ true → missing (named s (x .cred)) ≡ false
+  pub there : isTransfer (x .req) ≡ true → missing (namedObject s (x .cred)) ≡ false
   there h = exists (whole (or-intro-l (x .req .operation is 1 || x .req .operation is 2)
       (x .req .operation is 6) h))
 
-  pub in-object : moves (x .req) ≡ true → x .req .A + x .req .B ≤ objectOf s (x .cred) .size
+  pub in-object : isTransfer (x .req) ≡ true → x .req .A + x .req .B ≤ objectOf s (x .cred) .size
   unfolding row17
   in-object h =
       ltb-false (objectOf s (x .cred) .size) (x .req .A + x .req .B)
-      (and-false (moves (x .req)) (x .req .A + x .req .B over objectOf s (x .cred) .size) h clear17)
+      (and-rest-false (isTransfer (x .req)) (x .req .A + x .req .B over objectOf s (x .cred) .size) h clear17)
 
   -- reads and writes move bytes
-  pub read-moves : {a b : ℕ} → operationOf x ≡ Read a b → moves (x .req) ≡ true
+  pub read-moves : {a b : ℕ} → operationOf x ≡ Read a b → isTransfer (x .req) ≡ true
   read-moves o = rw (asks-for (x .req) (Read _ _) o .0) refl
 
-  pub write-moves : {a b : ℕ} → operationOf x ≡ Write a b → moves (x .req) ≡ true
+  pub write-moves : {a b : ℕ} → operationOf x ≡ Write a b → isTransfer (x .req) ≡ true
   write-moves o = rw (asks-for (x .req) (Write _ _) o .0) refl
 
   data-length : length (x .payload) ≡ x .req .n
@@ -312,25 +312,25 @@ module _ {f : List ℕ} {s : Scope Object} {space : List ℕ} (g : Clear f s spa
       let k = asks-for (x .req) (Create a b) o in
       subst (λ (n : ℕ). missing (find Object.number n (s .partition .objects)) ≡ true) (k .1)
       (not-false (missing (find Object.number (x .req .A) (s .partition .objects)))
-      (and-false (x .req .operation is 5)
+      (and-rest-false (x .req .operation is 5)
       (not (missing (find Object.number (x .req .A) (s .partition .objects))))
       (eq-eqb (x .req .operation) 5 (k .0)) clear18))
 
   can-create : SoundScope s → (a b : ℕ) → operationOf x ≡ Create a b → CanCreate s a b
-  unfolding placeOf startOf row19 row20
+  unfolding placement placementStart row19 row20
   can-create h a b o =
       let k = asks-for (x .req) (Create a b) o in
       let is5 : Is 5 = eq-eqb (x .req .operation) 5 (k .0) in
       let h6 : (x .req .A is 0 || x .req .B is 0) ≡ false =
-      and-false (x .req .operation is 5) (x .req .A is 0 || x .req .B is 0) is5
+      and-rest-false (x .req .operation is 5) (x .req .A is 0 || x .req .B is 0) is5
       (none-of (misfits (x .cred) (x .req)) clear6 5) in
       let a0 : x .req .A ≡ 0 → ⊥ = eqb-false (x .req .A) 0 (or-l (x .req .A is 0) (x .req .B is 0) h6) in
       let b0 : x .req .B ≡ 0 → ⊥ = eqb-false (x .req .B) 0 (or-r (x .req .A is 0) (x .req .B is 0) h6) in
       let full : length here ≡ 16 → ⊥ = eqb-false (length here) 16
-      (and-false (x .req .operation is 5) (length here is 16) is5 clear19) in
+      (and-rest-false (x .req .operation is 5) (length here is 16) is5 clear19) in
       let fit : missing (bestFit extentStep (s .quarter) here b) ≡ false =
       subst (λ (n : ℕ). missing (bestFit extentStep (s .quarter) here n) ≡ false) (k .2)
-      (and-false (x .req .operation is 5) (missing (bestFit extentStep (s .quarter) here (x .req .B))) is5 clear20) in
+      (and-rest-false (x .req .operation is 5) (missing (bestFit extentStep (s .quarter) here (x .req .B))) is5 clear20) in
       record {
         number-one = omega (arith, k .1);
         size-one = omega (arith, k .2);

@@ -12,7 +12,7 @@ use lib.ListN.{length, length-map, length-replicate, List·getD-eq-default, repl
 use borrow.Author.Tests.{eq-eqb, eqb-true, leb-true, ltb-false}
 use Rattle.lemmas.specs.ListLaws.{every-member, every-nth, pairs-members}
 use Rattle.lemmas.specs.Lists.{every}
-use Rattle.lemmas.specs.Rows.{applies, firstRow, none-applies}
+use Rattle.lemmas.specs.RowTable.{applies, firstRow, none-applies}
 use Rattle.lemmas.specs.Tests.{_is_, _isnt_, and-r, both, or-cases}
 use Rattle.rules.specs.declared.Object.{Object}
 use Rattle.rules.specs.Demands.{
@@ -21,13 +21,13 @@ use Rattle.rules.specs.Demands.{
   AllOfDemand3,
   Demand3,
   fed,
-  from,
+  extentFrom,
   Has,
   Nonce,
   nonce,
   State,
   step,
-  to,
+  extentTo,
 }
 use Rattle.rules.specs.Drive.{
   apart,
@@ -42,12 +42,12 @@ use Rattle.rules.specs.Drive.{
   soundObject,
   soundPartition,
   Tables,
-  unused,
+  emptyPartition,
 }
 use Rattle.rules.specs.Frame.{fields}
 use Rattle.rules.specs.Gate.{Call}
-use Rattle.rules.specs.Ledger.{bare, feed, Held, Ledger, ledger, start, tablesOf}
-use Rattle.rules.specs.Operations.{named, objectOf, present}
+use Rattle.rules.specs.Ledger.{bare, feed, LedgerObject, Ledger, ledger, ledgerStart, tablesOf}
+use Rattle.rules.specs.Operations.{namedObject, objectOf, presentVersion}
 use Rattle.rules.specs.Rows.{bounds, row10, row14, row15, row17, row8, row9}
 use Rattle.rules.specs.Scope.{Scope}
 use Rattle.rules.proofs.Clear.{bound}
@@ -106,8 +106,8 @@ module _ (medium : List ℕ) (F : ℕ) (master drive : List ℕ) where
   small e = ltb-false 16777216 (length medium) (none-applies (formatRows medium F master drive) refl e 24)
 
   start-inv : row ≡ 0 → Inv (length medium) (record { drive = made .drive; medium = made .medium })
-      (start F master drive)
-  unfolding made start tablesOf every empty
+      (ledgerStart F master drive)
+  unfolding made ledgerStart tablesOf every empty
   start-inv e = record {
     small = small e;
     size = refl;
@@ -116,15 +116,15 @@ module _ (medium : List ℕ) (F : ℕ) (master drive : List ℕ) where
       size = length-replicate (length medium) 0;
       four = refl;
       sound = both u (both u (both u (both u refl)));
-      bytes = λ p h k. absurd (not-empty (partitionAt (start F master drive) p .objects) h
-          (every-nth (λ (r : Partition Held). empty (r .objects)) (start F master drive .partitions) p
-          (unused 0) refl refl) k);
+      bytes = λ p h k. absurd (not-empty (partitionAt (ledgerStart F master drive) p .objects) h
+          (every-nth (λ (r : Partition LedgerObject). empty (r .objects)) (ledgerStart F master drive .partitions) p
+          (emptyPartition 0) refl refl) k);
     };
     five = refl;
     short = refl;
   }
     where
-      u : soundPartition (quarter (length medium)) (unused F) ≡ true
+      u : soundPartition (quarter (length medium)) (emptyPartition F) ≡ true
       u = unused-sound (quarter (length medium)) F
 
 -- ---- lists of calls
@@ -181,16 +181,16 @@ agree M s l v = record {
         go (yes e) = e
         go (no e) =
             absurd (List·Memᴰ·not-nil (subst (λ (r : Partition Object). List·Memᴰ a (r .objects))
-            (List·getD-eq-default (t .partitions) (unused 0) {n = p} (omega (arith, count))) k))
+            (List·getD-eq-default (t .partitions) (emptyPartition 0) {n = p} (omega (arith, count))) k))
 
-    ways : (p : ℕ) (a b : Object) → apart a b ≡ true → (to M p a ≤ from M p b) ⊎ (to M p b ≤ from M p a)
+    ways : (p : ℕ) (a b : Object) → apart a b ≡ true → (extentTo M p a ≤ extentFrom M p b) ⊎ (extentTo M p b ≤ extentFrom M p a)
     ways p a b e =
         go (or-cases (leb (a .start + a .size) (b .start)) (leb (b .start + b .size) (a .start))
         (and-r (a .number isnt b .number) (leb (a .start + a .size) (b .start) || leb (b .start + b .size) (a .start))
         e))
       where
         go : (leb (a .start + a .size) (b .start) ≡ true) ⊎ (leb (b .start + b .size) (a .start) ≡ true)
-            → (to M p a ≤ from M p b) ⊎ (to M p b ≤ from M p a)
+            → (extentTo M p a ≤ extentFrom M p b) ⊎ (extentTo M p b ≤ extentFrom M p a)
         go (inl k) = inl (omega (arith, leb-true (a .start + a .size) (b .start) k))
         go (inr k) = inr (omega (arith, leb-true (b .start + b .size) (a .start) k))
 
@@ -199,20 +199,20 @@ agree M s l v = record {
     swap (inr x) = inl x
 
     one : (p : ℕ) (a b : Object) → (a .number ≡ b .number → ⊥) → (a ≡ b) ⊎ ((apart a b ≡ true) ⊎ (apart b a ≡ true))
-        → (to M p a ≤ from M p b) ⊎ (to M p b ≤ from M p a)
+        → (extentTo M p a ≤ extentFrom M p b) ⊎ (extentTo M p b ≤ extentFrom M p a)
     one p a b ne (inl e) = absurd (ne (ap Object.number e))
     one p a b ne (inr (inl e)) = ways p a b e
     one p a b ne (inr (inr e)) = swap (ways p b a e)
 
     meet : (p r : ℕ) (a b : Object) → Has s p a → Has s r b → (p ≡ r → a .number ≡ b .number → ⊥) → Dec (p ≡ r)
-        → (to M p a ≤ from M r b) ⊎ (to M r b ≤ from M p a)
+        → (extentTo M p a ≤ extentFrom M r b) ⊎ (extentTo M r b ≤ extentFrom M p a)
     meet p r a b j k ne (yes e) =
-        subst (λ (n : ℕ). (to M p a ≤ from M n b) ⊎ (to M n b ≤ from M p a)) e
+        subst (λ (n : ℕ). (extentTo M p a ≤ extentFrom M n b) ⊎ (extentTo M n b ≤ extentFrom M p a)) e
         (one p a b (ne e) (pairs-members apart (partitionAt t p .objects) a b (at p .pair) j
         (subst (λ (n : ℕ). Has s n b) (sym e) k)))
     meet p r a b j k ne (no e) = go (decLt p r)
       where
-        go : Dec (p < r) → (to M p a ≤ from M r b) ⊎ (to M r b ≤ from M p a)
+        go : Dec (p < r) → (extentTo M p a ≤ extentFrom M r b) ⊎ (extentTo M r b ≤ extentFrom M p a)
         go (yes h) = inl (omega (arith, quarter-below (quarter M) p r h, object p a j .inside))
         go (no h) =
             let h′ : r < p = omega arith in
@@ -221,7 +221,7 @@ agree M s l v = record {
 -- ---- demand 3, from any state and ledger of which the invariant holds
 demand : (M : ℕ) (s : State) (l : Ledger) (calls : List Call) → Inv M s l → Demand3 M s l calls
 -- (the rows that the ledger judges look at no memory)
-unfolding bounds row8 row9 row10 row14 row15 row17 named objectOf present
+unfolding bounds row8 row9 row10 row14 row15 row17 namedObject objectOf presentVersion
 demand M s l calls v = record {
   noRepeat = λ before between later c d e gc gd same.
       let u = run-inv M s l before v in
@@ -249,11 +249,11 @@ pub format-inv : (medium : List ℕ) (F : ℕ) (master drive : List ℕ) → for
       drive = format medium F master drive .drive;
       medium =
           format medium F master drive .medium;
-    }) (start F master drive)
+    }) (ledgerStart F master drive)
 format-inv medium F master drive e =
     let r : row medium F master drive ≡ 0 = formatted medium F master drive e in
     subst (λ (f : Formatted). Inv (length medium) (record { drive = f .drive; medium = f .medium })
-    (start F master drive))
+    (ledgerStart F master drive))
     (sym (format-made medium F master drive r)) (start-inv medium F master drive r)
 
 pub demand3 : AllOfDemand3
@@ -262,5 +262,5 @@ demand3 medium F master drive calls e =
       drive = format medium F master drive .drive;
       medium =
           format medium F master drive .medium;
-    }) (start F master drive) calls
+    }) (ledgerStart F master drive) calls
     (format-inv medium F master drive e)

@@ -16,28 +16,28 @@ use Rattle.lemmas.specs.Parts.{length-splice, part-apart, part-inside, part-new
 use Rattle.lemmas.specs.Tests.{_is_, _isnt_, and-l, and-r, or-cases}
 use Rattle.rules.specs.declared.Entry.{Entry}
 use Rattle.rules.specs.declared.Object.{Object}
-use Rattle.rules.specs.Drive.{apart, Keys, Partition, partitionAt, quarter, soundObject, soundPartition, unused}
+use Rattle.rules.specs.Drive.{apart, Keys, Partition, partitionAt, quarter, soundObject, soundPartition, emptyPartition}
 use Rattle.rules.specs.declared.Operation.{Operation}
 use Rattle.rules.specs.declared.Operation.the-variants.{Create, Delete, Look, Raise, Read, SetKey, Write}
 use Rattle.rules.specs.Frame.{Fields}
 use Rattle.rules.specs.Ledger.{
   bare,
   bareScope,
-  gone,
-  Held,
-  heldVersion,
-  joined,
+  ledgerDeleted,
+  LedgerObject,
+  ledgerWithVersion,
+  ledgerCreated,
   Ledger,
-  ledgerAfter,
+  ledgerPerform,
   ledgerScope,
   numberOf,
-  raisedHere,
-  start,
+  ledgerRaised,
+  ledgerStart,
   tablesOf,
-  written,
-  wrote,
+  ledgerWritten,
+  withBytesWritten,
 }
-use Rattle.rules.specs.Operations.{extentStart, keySet, named, objectOf, perform, placeOf, startOf}
+use Rattle.rules.specs.Operations.{extentStart, keySet, namedObject, objectOf, perform, placement, placementStart}
 use Rattle.rules.specs.Scope.{withScope, Scope, withKeys}
 use Rattle.rules.proofs.Bare.{bare-after, bare-at, bare-back, sees, the-held, the-object}
 use Rattle.rules.proofs.Placing.{clearOf}
@@ -56,7 +56,7 @@ use Rattle.rules.proofs.Sound.{
 
 -- ---- what is known of a grant
 pub record CanWrite (s : Scope Object) (x : Fields) (offset size : ℕ) : Type 0 where
-  pub there : missing (named s (x .cred)) ≡ false
+  pub there : missing (namedObject s (x .cred)) ≡ false
   pub fits : offset + size ≤ objectOf s (x .cred) .size
   pub len : length (x .payload) ≡ size
 
@@ -67,7 +67,7 @@ pub record Grant (o : Operation) (s : Scope Object) (x : Fields) : Type 0 where
 
 -- ---- what is known of ledger and medium
 abbrev pub Bytes : ℕ → List ℕ → Ledger → Type 0
-Bytes M m l = (p : ℕ) (h : Held) → List·Memᴰ h (partitionAt l p .objects)
+Bytes M m l = (p : ℕ) (h : LedgerObject) → List·Memᴰ h (partitionAt l p .objects)
     → part m (p * quarter M + h .object .start) (h .object .size) ≡ h .bytes
 
 pub record Good (M : ℕ) (m : List ℕ) (l : Ledger) : Type 0 where
@@ -88,29 +88,29 @@ module _ (M : ℕ) (m : List ℕ) (l : Ledger) (g : Good M m l) where
   q = quarter M
 
   -- only four partitions have objects
-  pub partition-in-four : (p : ℕ) (h : Held) → List·Memᴰ h (partitionAt l p .objects) → p < 4
+  pub partition-in-four : (p : ℕ) (h : LedgerObject) → List·Memᴰ h (partitionAt l p .objects) → p < 4
   partition-in-four p h k = go (decLt p 4)
     where
       go : Dec (p < 4) → p < 4
       go (yes e) = e
       go (no e) =
-          absurd (List·Memᴰ·not-nil (subst (λ (r : Partition Held). List·Memᴰ h (r .objects))
-          (List·getD-eq-default (l .partitions) (unused 0) {n = p} (omega (arith, g .four))) k))
+          absurd (List·Memᴰ·not-nil (subst (λ (r : Partition LedgerObject). List·Memᴰ h (r .objects))
+          (List·getD-eq-default (l .partitions) (emptyPartition 0) {n = p} (omega (arith, g .four))) k))
 
   sound-at : (p : ℕ) → SoundPartition (quarter M) (bare (partitionAt l p))
   sound-at p = subst (SoundPartition (quarter M)) (bare-at l p)
       (partition-is (quarter M) (partitionAt (tablesOf l) p) (at-sound (quarter M) (tablesOf l) p (g .sound)))
 
-  pub held-sound : (p : ℕ) (h : Held) → List·Memᴰ h (partitionAt l p .objects)
+  pub held-sound : (p : ℕ) (h : LedgerObject) → List·Memᴰ h (partitionAt l p .objects)
       → SoundObject (quarter M) (partitionAt l p .last) (h .object)
   held-sound p h k =
       object-is (quarter M) (partitionAt l p .last) (h .object)
-      (every-member (λ (a : Held). soundObject (quarter M) (partitionAt l p .last) (a .object))
+      (every-member (λ (a : LedgerObject). soundObject (quarter M) (partitionAt l p .last) (a .object))
       (partitionAt l p .objects) h
-      (every-unmap (soundObject (quarter M) (partitionAt l p .last)) Held.object (partitionAt l p .objects)
+      (every-unmap (soundObject (quarter M) (partitionAt l p .last)) LedgerObject.object (partitionAt l p .objects)
       (sound-at p .each)) k)
 
-  inside : (p : ℕ) (h : Held) → List·Memᴰ h (partitionAt l p .objects)
+  inside : (p : ℕ) (h : LedgerObject) → List·Memᴰ h (partitionAt l p .objects)
       → p * quarter M + h .object .start + h .object .size ≤ length m
   inside p h k = omega (arith, quarter-in M p (partition-in-four p h k), held-sound p h k .inside, g .size)
 
@@ -128,14 +128,14 @@ module _ (M : ℕ) (m : List ℕ) (l : Ledger) (g : Good M m l) where
       go (inl e) = inl (leb-true (a .start + a .size) (b .start) e)
       go (inr e) = inr (leb-true (b .start + b .size) (a .start) e)
 
-  pair-of : (p : ℕ) (h k : Held) → List·Memᴰ h (partitionAt l p .objects) → List·Memᴰ k (partitionAt l p .objects)
+  pair-of : (p : ℕ) (h k : LedgerObject) → List·Memᴰ h (partitionAt l p .objects) → List·Memᴰ k (partitionAt l p .objects)
       → (h ≡ k) ⊎ ((apart (h .object) (k .object) ≡ true) ⊎ (apart (k .object) (h .object) ≡ true))
   pair-of p h k i j =
-      pairs-members (λ (a b : Held). apart (a .object) (b .object)) (partitionAt l p .objects) h k
-      (pairs-unmap apart Held.object (partitionAt l p .objects) (sound-at p .pair)) i j
+      pairs-members (λ (a b : LedgerObject). apart (a .object) (b .object)) (partitionAt l p .objects) h k
+      (pairs-unmap apart LedgerObject.object (partitionAt l p .objects) (sound-at p .pair)) i j
 
   -- two of one number are one
-  unique : (p : ℕ) (h k : Held) → List·Memᴰ h (partitionAt l p .objects) → List·Memᴰ k (partitionAt l p .objects)
+  unique : (p : ℕ) (h k : LedgerObject) → List·Memᴰ h (partitionAt l p .objects) → List·Memᴰ k (partitionAt l p .objects)
       → numberOf h ≡ numberOf k → h ≡ k
   unique p h k i j e = go (pair-of p h k i j)
     where
@@ -151,7 +151,7 @@ module _ (M : ℕ) (m : List ℕ) (l : Ledger) (g : Good M m l) where
       go (inr (inr f)) = absurd (differ (k .object) (h .object) f (sym e))
 
   -- two of different numbers lie apart
-  lie-apart : (p : ℕ) (h k : Held) → List·Memᴰ h (partitionAt l p .objects) → List·Memᴰ k (partitionAt l p .objects)
+  lie-apart : (p : ℕ) (h k : LedgerObject) → List·Memᴰ h (partitionAt l p .objects) → List·Memᴰ k (partitionAt l p .objects)
       → (numberOf h ≡ numberOf k → ⊥) → Lies (k .object) (h .object)
   unfolding Lies
   lie-apart p h k i j e = go (pair-of p h k i j)
@@ -168,7 +168,7 @@ module _ (M : ℕ) (m : List ℕ) (l : Ledger) (g : Good M m l) where
 
   -- new bytes in one partition leave the other partitions' objects alone
   elsewhere : (p a : ℕ) (new : List ℕ) → p < 4 → a + length new ≤ quarter M
-      → (r : ℕ) (h : Held) → (r ≡ p → ⊥) → List·Memᴰ h (partitionAt l r .objects)
+      → (r : ℕ) (h : LedgerObject) → (r ≡ p → ⊥) → List·Memᴰ h (partitionAt l r .objects)
       → part (splice m (p * quarter M + a) new) (r * quarter M + h .object .start) (h .object .size) ≡ h .bytes
   elsewhere p a new hp ha r h ne k =
       part-apart m new (p * quarter M + a) (r * quarter M + h .object .start) (h .object .size)
@@ -183,10 +183,10 @@ module _ (M : ℕ) (m : List ℕ) (l : Ledger) (g : Good M m l) where
           inr (omega (arith, quarter-below (quarter M) r p e′, held-sound r h k .inside))
 
   -- the bytes after one partition has changed: there, and elsewhere
-  bytes-at : (x : Fields) (s : Scope Held) (m′ : List ℕ) → x .cred .partition < 4
-      → ((h : Held) → List·Memᴰ h (s .partition .objects)
+  bytes-at : (x : Fields) (s : Scope LedgerObject) (m′ : List ℕ) → x .cred .partition < 4
+      → ((h : LedgerObject) → List·Memᴰ h (s .partition .objects)
       → part m′ (x .cred .partition * quarter M + h .object .start) (h .object .size) ≡ h .bytes)
-      → ((r : ℕ) (h : Held) → (r ≡ x .cred .partition → ⊥) → List·Memᴰ h (partitionAt l r .objects)
+      → ((r : ℕ) (h : LedgerObject) → (r ≡ x .cred .partition → ⊥) → List·Memᴰ h (partitionAt l r .objects)
       → part m′ (r * quarter M + h .object .start) (h .object .size) ≡ h .bytes)
       → Bytes M m′ (withScope (x .cred) s l)
   bytes-at x s m′ hp here there r h k = go (ℕ-discrete r p)
@@ -194,35 +194,35 @@ module _ (M : ℕ) (m : List ℕ) (l : Ledger) (g : Good M m l) where
       p : ℕ
       p = x .cred .partition
 
-      new : Partition Held → Partition Held
+      new : Partition LedgerObject → Partition LedgerObject
       new old = s .partition
 
       go : Dec (r ≡ p) → part m′ (r * quarter M + h .object .start) (h .object .size) ≡ h .bytes
       go (yes e) =
-          rw e (here h (subst (λ (s : Partition Held). List·Memᴰ h (s .objects))
-          (nth-update p new (l .partitions) (unused 0) (omega (arith, g .four)))
-          (subst (λ (n : ℕ). List·Memᴰ h (getD (update p new (l .partitions)) n (unused 0) .objects)) e k)))
-      go (no e) = there r h e (subst (λ (s : Partition Held). List·Memᴰ h (s .objects))
-          (nth-update-other p r new (l .partitions) (unused 0) e) k)
+          rw e (here h (subst (λ (s : Partition LedgerObject). List·Memᴰ h (s .objects))
+          (nth-update p new (l .partitions) (emptyPartition 0) (omega (arith, g .four)))
+          (subst (λ (n : ℕ). List·Memᴰ h (getD (update p new (l .partitions)) n (emptyPartition 0) .objects)) e k)))
+      go (no e) = there r h e (subst (λ (s : Partition LedgerObject). List·Memᴰ h (s .objects))
+          (nth-update-other p r new (l .partitions) (emptyPartition 0) e) k)
 
-  still : (p : ℕ) (r : ℕ) (h : Held) → (r ≡ p → ⊥) → List·Memᴰ h (partitionAt l r .objects)
+  still : (p : ℕ) (r : ℕ) (h : LedgerObject) → (r ≡ p → ⊥) → List·Memᴰ h (partitionAt l r .objects)
       → part m (r * quarter M + h .object .start) (h .object .size) ≡ h .bytes
   still p r h e k = g .bytes r h k
 
   -- the ledger after a grant, and what its frame sees of it before, beside any memory
   abbrev after : Operation → Fields → Ledger
-  after o x = withScope (x .cred) (ledgerAfter o (ledgerScope M l (x .cred)) x) l
+  after o x = withScope (x .cred) (ledgerPerform o (ledgerScope M l (x .cred)) x) l
 
   -- ---- 2. Write
-  written-bytes : (x : Fields) (offset size : ℕ) (k : Held) → x .cred .partition < 4
+  written-bytes : (x : Fields) (offset size : ℕ) (k : LedgerObject) → x .cred .partition < 4
       → List·Memᴰ k (partitionAt l (x .cred .partition) .objects) → numberOf k ≡ x .cred .object
       → offset + length (x .payload) ≤ k .object .size
       → Bytes M (splice m (x .cred .partition * quarter M + k .object .start + offset) (x .payload))
       (after (Write offset size) x)
-  unfolding ledgerAfter written wrote Lies
+  unfolding ledgerPerform ledgerWritten withBytesWritten Lies
   written-bytes x offset size k hp i e fit =
-      bytes-at x (ledgerAfter (Write offset size) (ledgerScope M l (x .cred)) x) m′ hp (λ h j. here h
-      (member-change numberOf (x .cred .object) (wrote offset (x .payload)) (partitionAt l p .objects) h j))
+      bytes-at x (ledgerPerform (Write offset size) (ledgerScope M l (x .cred)) x) m′ hp (λ h j. here h
+      (member-change numberOf (x .cred .object) (withBytesWritten offset (x .payload)) (partitionAt l p .objects) h j))
       (λ r h ne j. subst (λ (n : ℕ). part (splice m n (x .payload)) (r * quarter M + h .object .start)
       (h .object .size) ≡ h .bytes)
       (sym (add-assoc (p * quarter M) (k .object .start) (offset)))
@@ -234,7 +234,7 @@ module _ (M : ℕ) (m : List ℕ) (l : Ledger) (g : Good M m l) where
       m′ : List ℕ
       m′ = splice m (p * quarter M + k .object .start + offset) (x .payload)
 
-      away : (h : Held) → List·Memᴰ h (partitionAt l p .objects) → Lies (k .object) (h .object)
+      away : (h : LedgerObject) → List·Memᴰ h (partitionAt l p .objects) → Lies (k .object) (h .object)
           → part m′ (p * quarter M + h .object .start) (h .object .size) ≡ h .bytes
       away h j (inl a) =
           part-apart m (x .payload) (p * quarter M + k .object .start + offset) (p * quarter M + h .object .start)
@@ -253,22 +253,22 @@ module _ (M : ℕ) (m : List ℕ) (l : Ledger) (g : Good M m l) where
           (inside p k i)
           ∙ ap (λ (b : List ℕ). splice b (offset) (x .payload)) (g .bytes p k i)
 
-      here : (h : Held)
+      here : (h : LedgerObject)
           → (List·Memᴰ h (partitionAt l p .objects) × (numberOf h ≡ x .cred .object → ⊥))
-          ⊎ ((b : Held) × List·Memᴰ b (partitionAt l p .objects) × (numberOf b ≡ x .cred .object)
-          × (h ≡ wrote offset (x .payload) b))
+          ⊎ ((b : LedgerObject) × List·Memᴰ b (partitionAt l p .objects) × (numberOf b ≡ x .cred .object)
+          × (h ≡ withBytesWritten offset (x .payload) b))
           → part m′ (p * quarter M + h .object .start) (h .object .size) ≡ h .bytes
       here h (inl r) = away h (r .0) (lie-apart p h k (r .0) i (λ f. r .1 (f ∙ e)))
       here h (inr r) =
-          subst (λ (h : Held). part m′ (p * quarter M + h .object .start) (h .object .size) ≡ h .bytes)
-          (sym (r .3 ∙ ap (wrote offset (x .payload)) (unique p (r .0) k (r .1) i (r .2 ∙ sym e)))) it
+          subst (λ (h : LedgerObject). part m′ (p * quarter M + h .object .start) (h .object .size) ≡ h .bytes)
+          (sym (r .3 ∙ ap (withBytesWritten offset (x .payload)) (unique p (r .0) k (r .1) i (r .2 ∙ sym e)))) it
 
   write-bytes : (es : List Entry) (x : Fields) (offset size : ℕ) → x .cred .partition < 4
       → CanWrite (sees M l es (x .cred)) x offset size
       → Bytes M (splice m (extentStart (sees M l es (x .cred)) (x .cred) + offset) (x .payload)) (after (Write offset size) x)
-  unfolding extentStart objectOf named
+  unfolding extentStart objectOf namedObject
   write-bytes es x offset size hp c =
-      let p : Partition Held = partitionAt l (x .cred .partition) in
+      let p : Partition LedgerObject = partitionAt l (x .cred .partition) in
       let n : ℕ = x .cred .object in
       rw (the-object p n (c .there))
       (written-bytes x offset size (the-held p n (c .there) .0) hp (the-held p n (c .there) .2) (the-held p n (c .there) .3)
@@ -276,9 +276,9 @@ module _ (M : ℕ) (m : List ℕ) (l : Ledger) (g : Good M m l) where
 
   -- ---- 4. Raise
   raise-bytes : (x : Fields) → x .cred .partition < 4 → Bytes M m (after Raise x)
-  unfolding ledgerAfter raisedHere
+  unfolding ledgerPerform ledgerRaised
   raise-bytes x hp =
-      bytes-at x (ledgerAfter Raise (ledgerScope M l (x .cred)) x) m hp (λ h j. here h (x .cred .object is 0) j) (still p)
+      bytes-at x (ledgerPerform Raise (ledgerScope M l (x .cred)) x) m hp (λ h j. here h (x .cred .object is 0) j) (still p)
     where
       p : ℕ
       p = x .cred .partition
@@ -286,31 +286,31 @@ module _ (M : ℕ) (m : List ℕ) (l : Ledger) (g : Good M m l) where
       v : ℕ
       v = partitionAt l p .last + 1
 
-      each : (h : Held)
+      each : (h : LedgerObject)
           → (List·Memᴰ h (partitionAt l p .objects) × (numberOf h ≡ x .cred .object → ⊥))
-          ⊎ ((b : Held) × List·Memᴰ b (partitionAt l p .objects) × (numberOf b ≡ x .cred .object)
-          × (h ≡ heldVersion v b))
+          ⊎ ((b : LedgerObject) × List·Memᴰ b (partitionAt l p .objects) × (numberOf b ≡ x .cred .object)
+          × (h ≡ ledgerWithVersion v b))
           → part m (p * quarter M + h .object .start) (h .object .size) ≡ h .bytes
       each h (inl r) = g .bytes p h (r .0)
-      each h (inr r) = subst (λ (h : Held). part m (p * quarter M + h .object .start) (h .object .size) ≡ h .bytes)
+      each h (inr r) = subst (λ (h : LedgerObject). part m (p * quarter M + h .object .start) (h .object .size) ≡ h .bytes)
           (sym (r .3)) (g .bytes p (r .0) (r .1))
 
-      here : (h : Held) (b : Bool)
+      here : (h : LedgerObject) (b : Bool)
           → List·Memᴰ h (cond b (partitionAt l p .objects)
-          (change numberOf (x .cred .object) (heldVersion v) (partitionAt l p .objects)))
+          (change numberOf (x .cred .object) (ledgerWithVersion v) (partitionAt l p .objects)))
           → part m (p * quarter M + h .object .start) (h .object .size) ≡ h .bytes
       here h true j = g .bytes p h j
-      here h false j = each h (member-change numberOf (x .cred .object) (heldVersion v)
+      here h false j = each h (member-change numberOf (x .cred .object) (ledgerWithVersion v)
           (partitionAt l p .objects) h j)
 
   -- ---- 5. Create
   create-bytes : (es : List Entry) (x : Fields) (number size : ℕ) → x .cred .partition < 4
       → CanCreate (sees M l es (x .cred)) number size
-      → Bytes M (splice m (x .cred .partition * quarter M + startOf (sees M l es (x .cred)) size) (replicate size 0))
+      → Bytes M (splice m (x .cred .partition * quarter M + placementStart (sees M l es (x .cred)) size) (replicate size 0))
       (after (Create number size) x)
-  unfolding ledgerAfter joined startOf placeOf
+  unfolding ledgerPerform ledgerCreated placementStart placement
   create-bytes es x number size hp c =
-      bytes-at x (ledgerAfter (Create number size) (ledgerScope M l (x .cred)) x) m′ hp
+      bytes-at x (ledgerPerform (Create number size) (ledgerScope M l (x .cred)) x) m′ hp
       (λ h j. here h (List·Memᴰ·append-cases (partitionAt l p .objects) j))
       (elsewhere p s zeros hp (rw len (c .place .inside)))
     where
@@ -318,7 +318,7 @@ module _ (M : ℕ) (m : List ℕ) (l : Ledger) (g : Good M m l) where
       p = x .cred .partition
 
       s : ℕ
-      s = startOf (sees M l es (x .cred)) size
+      s = placementStart (sees M l es (x .cred)) size
 
       zeros : List ℕ
       zeros = replicate size 0
@@ -329,7 +329,7 @@ module _ (M : ℕ) (m : List ℕ) (l : Ledger) (g : Good M m l) where
       m′ : List ℕ
       m′ = splice m (p * quarter M + s) zeros
 
-      new : Held
+      new : LedgerObject
       new = record {
         object = record {
           number = number;
@@ -343,12 +343,12 @@ module _ (M : ℕ) (m : List ℕ) (l : Ledger) (g : Good M m l) where
       room : p * quarter M + s + length zeros ≤ length m
       room = omega (arith, len, quarter-in M p hp, g .size, c .place .inside)
 
-      clear : (h : Held) → List·Memᴰ h (partitionAt l p .objects) → clearOf s size (h .object) ≡ true
+      clear : (h : LedgerObject) → List·Memᴰ h (partitionAt l p .objects) → clearOf s size (h .object) ≡ true
       clear h j =
-          every-member (λ (a : Held). clearOf s size (a .object)) (partitionAt l p .objects) h
-          (every-unmap (clearOf s size) Held.object (partitionAt l p .objects) (c .place .clear)) j
+          every-member (λ (a : LedgerObject). clearOf s size (a .object)) (partitionAt l p .objects) h
+          (every-unmap (clearOf s size) LedgerObject.object (partitionAt l p .objects) (c .place .clear)) j
 
-      away : (h : Held) → List·Memᴰ h (partitionAt l p .objects)
+      away : (h : LedgerObject) → List·Memᴰ h (partitionAt l p .objects)
           → (leb (h .object .start + h .object .size) s ≡ true) ⊎ (leb (s + size) (h .object .start) ≡ true)
           → part m′ (p * quarter M + h .object .start) (h .object .size) ≡ h .bytes
       away h j (inl a) =
@@ -365,19 +365,19 @@ module _ (M : ℕ) (m : List ℕ) (l : Ledger) (g : Good M m l) where
       it : part m′ (p * quarter M + s) size ≡ zeros
       it = subst (λ (n : ℕ). part m′ (p * quarter M + s) n ≡ zeros) len (part-new m zeros (p * quarter M + s) room)
 
-      here : (h : Held) → List·Memᴰ h (partitionAt l p .objects) ⊎ List·Memᴰ h (new ∷ [])
+      here : (h : LedgerObject) → List·Memᴰ h (partitionAt l p .objects) ⊎ List·Memᴰ h (new ∷ [])
           → part m′ (p * quarter M + h .object .start) (h .object .size) ≡ h .bytes
       here h (inl j) = away h j (or-cases (leb (h .object .start + h .object .size) s)
           (leb (s + size) (h .object .start)) (clear h j))
-      here h (inr j) = subst (λ (h : Held). part m′ (p * quarter M + h .object .start) (h .object .size) ≡ h .bytes)
+      here h (inr j) = subst (λ (h : LedgerObject). part m′ (p * quarter M + h .object .start) (h .object .size) ≡ h .bytes)
           (sym (List·Memᴰ·eq-of-singleton j)) it
 
   -- ---- 6. Delete
   delete-bytes : (x : Fields) → x .cred .partition < 4 → Bytes M m (after Delete x)
-  unfolding ledgerAfter gone
+  unfolding ledgerPerform ledgerDeleted
   delete-bytes x hp =
-      bytes-at x (ledgerAfter Delete (ledgerScope M l (x .cred)) x) m hp
-      (λ h j. g .bytes (x .cred .partition) h (member-keep (λ (a : Held). numberOf a isnt x .cred .object)
+      bytes-at x (ledgerPerform Delete (ledgerScope M l (x .cred)) x) m hp
+      (λ h j. g .bytes (x .cred .partition) h (member-keep (λ (a : LedgerObject). numberOf a isnt x .cred .object)
       (partitionAt l (x .cred .partition) .objects) h j)) (still (x .cred .partition))
 
   -- ---- nothing changes there
@@ -389,7 +389,7 @@ module _ (M : ℕ) (m : List ℕ) (l : Ledger) (g : Good M m l) where
   -- ---- all
   bytes-after : (o : Operation) (es : List Entry) (x : Fields) → Grant o (sees M l es (x .cred)) x
       → Bytes M (perform o (sees M l es (x .cred)) x m .medium) (after o x)
-  unfolding perform ledgerAfter
+  unfolding perform ledgerPerform
   bytes-after (Read a b) es x c = same-bytes x (c .partition) (l .keys)
   bytes-after (Write a b) es x c = write-bytes es x a b (c .partition) (c .writes a b refl)
   bytes-after Look es x c = same-bytes x (c .partition) (l .keys)
@@ -400,11 +400,11 @@ module _ (M : ℕ) (m : List ℕ) (l : Ledger) (g : Good M m l) where
 
   size-after : (o : Operation) (es : List Entry) (x : Fields) → Grant o (sees M l es (x .cred)) x
       → length (perform o (sees M l es (x .cred)) x m .medium) ≡ M
-  unfolding perform extentStart objectOf named
+  unfolding perform extentStart objectOf namedObject
   size-after (Read a b) es x c = g .size
   size-after (Write a b) es x c =
       let w : CanWrite (sees M l es (x .cred)) x a b = c .writes a b refl in
-      let p : Partition Held = partitionAt l (x .cred .partition) in
+      let p : Partition LedgerObject = partitionAt l (x .cred .partition) in
       let n : ℕ = x .cred .object in
       length-splice m (x .payload) (extentStart (sees M l es (x .cred)) (x .cred) + a)
       (omega (
@@ -419,7 +419,7 @@ module _ (M : ℕ) (m : List ℕ) (l : Ledger) (g : Good M m l) where
   size-after Look es x c = g .size
   size-after Raise es x c = g .size
   size-after (Create a b) es x c =
-      length-splice m (replicate b 0) (x .cred .partition * quarter M + startOf (sees M l es (x .cred)) b)
+      length-splice m (replicate b 0) (x .cred .partition * quarter M + placementStart (sees M l es (x .cred)) b)
       (omega (
         arith,
         length-replicate {A = ℕ} b 0,
@@ -437,7 +437,7 @@ module _ (M : ℕ) (m : List ℕ) (l : Ledger) (g : Good M m l) where
       let s : Scope Object = sees M l es (x .cred) in
       let h : SoundScope s = subst (λ (p : Partition Object). soundPartition (quarter M) p ≡ true)
       (bare-at l (x .cred .partition)) (at-sound (quarter M) (tablesOf l) (x .cred .partition) (g .sound)) in
-      rw bare-back (back-sound (quarter M) x (bareScope (ledgerAfter o (ledgerScope M l (x .cred)) x)) (tablesOf l)
+      rw bare-back (back-sound (quarter M) x (bareScope (ledgerPerform o (ledgerScope M l (x .cred)) x)) (tablesOf l)
       (subst (λ (s : Scope Object). soundPartition (quarter M) (s .partition) ≡ true)
       (bare-after o (ledgerScope M l (x .cred)) es x m) (scope-sound o s x m h (c .creates))) (g .sound))
 
@@ -446,7 +446,7 @@ module _ (M : ℕ) (m : List ℕ) (l : Ledger) (g : Good M m l) where
   good-after o es x c = record {
     size = size-after o es x c;
     four = length-update (x .cred .partition)
-        (λ (old : Partition Held). ledgerAfter o (ledgerScope M l (x .cred)) x .partition) (l .partitions) ∙ g .four;
+        (λ (old : Partition LedgerObject). ledgerPerform o (ledgerScope M l (x .cred)) x .partition) (l .partitions) ∙ g .four;
     sound = sound-after o es x c;
     bytes = bytes-after o es x c;
   }

@@ -7,7 +7,7 @@ use Prim.Native.Nat.{ℕ}
 use lib.Dec.{leb}
 use borrow.Author.Tests.{eqb-false, eqb-true}
 use Rattle.lemmas.specs.Lists.{every}
-use Rattle.lemmas.specs.Rows.{firstRow, Row}
+use Rattle.lemmas.specs.RowTable.{firstRow, Row}
 use Rattle.lemmas.specs.Tests.{_is_, and-l, and-r, bool-cases, both}
 use Rattle.rules.specs.declared.Object.{Object}
 use Rattle.rules.specs.Drive.{Drive, largestMedium, newHighWater, quarter, refresh, sound}

@@ -14,9 +14,9 @@ use Rattle.lemmas.specs.Lists.{keep, some?, update}
 use Rattle.lemmas.specs.Tests.{_is_, _under_, bool-cases, or-l}
 use Rattle.rules.specs.declared.Entry.{Entry}
 use Rattle.rules.specs.declared.Object.{Object}
-use Rattle.rules.specs.Demands.{answer, does, Nonce, nonce, State, step}
+use Rattle.rules.specs.Demands.{answer, callOperation, Nonce, nonce, State, step}
 use Rattle.rules.specs.Drive.{Drive, lives, newHighWater, refresh, sameEntry}
-use Rattle.rules.specs.Frame.{entry, Fields, fields, memory}
+use Rattle.rules.specs.Frame.{entry, Fields, fields, memoryIndex}
 use Rattle.rules.specs.Gate.{Call, granted}
 use Rattle.rules.specs.Ledger.{Ledger}
 use Rattle.rules.specs.Operations.{perform, remember}
@@ -48,29 +48,29 @@ known-refreshed n d clock (inl k) = go (decLt (n .entry .time + 5000) mark)
         (λ e s. still-lives mark (n .entry) e h s) k)
 
 -- a grant's own memory grows
-known-granted : (n : Nonce) (x : Fields) (d : Drive) (a : Scope Object) → memory (x .cred) < length (d .memories) → Known n d
+known-granted : (n : Nonce) (x : Fields) (d : Drive) (a : Scope Object) → memoryIndex (x .cred) < length (d .memories) → Known n d
     → Known n (driveWithScope (x .cred) (withMemory (remember x (driveScope d (x .cred) .memory)) a) d)
 known-granted n x d a h (inr k) = inr k
-known-granted n x d a h (inl k) = go (ℕ-discrete (n .memory) (memory (x .cred)))
+known-granted n x d a h (inl k) = go (ℕ-discrete (n .memory) (memoryIndex (x .cred)))
   where
     new : List Entry → List Entry
-    new old = remember x (getD (d .memories) (memory (x .cred)) [])
+    new old = remember x (getD (d .memories) (memoryIndex (x .cred)) [])
 
-    go : Dec (n .memory ≡ memory (x .cred))
+    go : Dec (n .memory ≡ memoryIndex (x .cred))
         → Known n (driveWithScope (x .cred) (withMemory (remember x (driveScope d (x .cred) .memory)) a) d)
     go (yes e) =
-        inl (ap (λ (i : ℕ). some? (sameEntry (n .entry)) (getD (update (memory (x .cred)) new (d .memories)) i [])) e
-        ∙ ap (some? (sameEntry (n .entry))) (nth-update (memory (x .cred)) new (d .memories) [] h)
-        ∙ remember-keeps (sameEntry (n .entry)) x (getD (d .memories) (memory (x .cred)) [])
+        inl (ap (λ (i : ℕ). some? (sameEntry (n .entry)) (getD (update (memoryIndex (x .cred)) new (d .memories)) i [])) e
+        ∙ ap (some? (sameEntry (n .entry))) (nth-update (memoryIndex (x .cred)) new (d .memories) [] h)
+        ∙ remember-keeps (sameEntry (n .entry)) x (getD (d .memories) (memoryIndex (x .cred)) [])
         (ap (λ (i : ℕ). some? (sameEntry (n .entry)) (getD (d .memories) i [])) (sym e) ∙ k))
     go (no e) = inl (ap (some? (sameEntry (n .entry)))
-        (nth-update-other (memory (x .cred)) (n .memory) new (d .memories) [] e) ∙ k)
+        (nth-update-other (memoryIndex (x .cred)) (n .memory) new (d .memories) [] e) ∙ k)
 
 module _ (M : ℕ) (s : State) (l : Ledger) (c : Call) (v : Inv M s l) where
   abbrev x : Fields
   x = fields (c .frame)
 
-  in-memory : rowOf s c ≡ 0 → memory (fields (c .frame) .cred) < length (fresh s c .memories)
+  in-memory : rowOf s c ≡ 0 → memoryIndex (fields (c .frame) .cred) < length (fresh s c .memories)
   in-memory e = omega (arith, in-five (clear-of M s l c v e), fresh-inv M s l c v .five)
 
   -- every call leaves a known nonce known
@@ -82,7 +82,7 @@ module _ (M : ℕ) (s : State) (l : Ledger) (c : Call) (v : Inv M s l) where
       go (inl b) =
           let e : rowOf s c ≡ 0 = eqb-true (rowOf s c) 0 b in
           subst (λ (t : State). Known n (t .drive)) (sym (step-granted M s l c v e))
-          (known-granted n x (fresh s c) (perform (does c) (driveScope (fresh s c) (x .cred)) x (s .medium) .scope) (in-memory e)
+          (known-granted n x (fresh s c) (perform (callOperation c) (driveScope (fresh s c) (x .cred)) x (s .medium) .scope) (in-memory e)
           (known-refreshed n (s .drive) (c .clock) k))
       go (inr b) =
           subst (λ (t : State). Known n (t .drive)) (sym (step-refused M s l c v (eqb-false (rowOf s c) 0 b)))
@@ -94,9 +94,9 @@ module _ (M : ℕ) (s : State) (l : Ledger) (c : Call) (v : Inv M s l) where
   granted-known r =
       let e : rowOf s c ≡ 0 = row-zero M s l c v r in
       subst (λ (t : State). Known (nonce c) (t .drive)) (sym (step-granted M s l c v e))
-      (inl (ap (some? (sameEntry (entry (x .cred) (x .req)))) (nth-update (memory (x .cred))
+      (inl (ap (some? (sameEntry (entry (x .cred) (x .req)))) (nth-update (memoryIndex (x .cred))
       (λ (old : List Entry). remember x (driveScope (fresh s c) (x .cred) .memory)) (fresh s c .memories) [] (in-memory e))
-      ∙ remember-has (sameEntry (entry (x .cred) (x .req))) x (getD (fresh s c .memories) (memory (x .cred)) []) (same-entry (entry (x .cred) (x .req)))))
+      ∙ remember-has (sameEntry (entry (x .cred) (x .req))) x (getD (fresh s c .memories) (memoryIndex (x .cred)) []) (same-entry (entry (x .cred) (x .req)))))
 
   -- and a known one is not granted
   pub known-not-granted : Known (nonce c) (s .drive) → answer s c .row ≡ 0 → ⊥

@@ -18,6 +18,6 @@ pub mod Renewal
 pub mod Passed
 pub mod Edges
 pub mod Versions
-pub mod Story
+pub mod OneLog
 pub mod RoundTrip
 pub mod RepliesBack

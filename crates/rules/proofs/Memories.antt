@@ -23,7 +23,7 @@ use Rattle.lemmas.specs.Tests.{and-l, and-r, both, tests}
 use Rattle.rules.specs.declared.Entry.{Entry}
 use Rattle.rules.specs.declared.Object.{Object}
 use Rattle.rules.specs.Drive.{Drive, lives, sameEntry}
-use Rattle.rules.specs.Frame.{entry, Fields, memory}
+use Rattle.rules.specs.Frame.{entry, Fields, memoryIndex}
 use Rattle.rules.specs.Operations.{remember}
 use Rattle.rules.specs.Rows.{row22}
 use Rattle.rules.specs.Scope.{Scope, driveScope}
@@ -61,14 +61,14 @@ short-kept mark ms h =
 
 -- and with a grant's entry, which row 22 let in
 pub short-entered : (d : Drive) (x : Fields) → row22 (driveScope d (x .cred)) ≡ false → every short (d .memories) ≡ true
-    → every short (update (memory (x .cred)) (λ (old : List Entry). remember x (driveScope d (x .cred) .memory)) (d .memories)) ≡ true
+    → every short (update (memoryIndex (x .cred)) (λ (old : List Entry). remember x (driveScope d (x .cred) .memory)) (d .memories)) ≡ true
 short-entered d x r h =
     let before : List Entry = driveScope d (x .cred) .memory in
-    every-update short (memory (x .cred)) (λ (old : List Entry). remember x before) (d .memories) []
+    every-update short (memoryIndex (x .cred)) (λ (old : List Entry). remember x before) (d .memories) []
     (le-leb (length (remember x before)) 64 (omega (
       arith,
       remember-length x before,
-      room-left (driveScope d (x .cred)) r (every-nth short (d .memories) (memory (x .cred)) [] refl h),
+      room-left (driveScope d (x .cred)) r (every-nth short (d .memories) (memoryIndex (x .cred)) [] refl h),
     ))) h
 
 -- ---- entries

@@ -14,16 +14,16 @@ use borrow.Author.Tests.{eq-eqb, ne-eqb}
 use Rattle.lemmas.specs.Lists.{find, missing}
 use Rattle.rules.specs.declared.Entry.{Entry}
 use Rattle.rules.specs.declared.Object.{Object}
-use Rattle.rules.specs.Demands.{asks, State}
+use Rattle.rules.specs.Demands.{callFields, State}
 use Rattle.rules.specs.Drive.{Partition, partitionAt}
 use Rattle.rules.specs.declared.Operation.{Operation}
 use Rattle.rules.specs.declared.Operation.the-variants.{Raise, Write}
 use Rattle.rules.specs.Frame.{Fields, operationOf}
 use Rattle.rules.specs.Gate.{Call}
-use Rattle.rules.specs.Ledger.{clocked, Fed, feed, Held, Ledger, numberOf}
-use Rattle.rules.specs.Operations.{named, objectOf, present}
+use Rattle.rules.specs.Ledger.{clocked, Fed, feed, LedgerObject, Ledger, numberOf}
+use Rattle.rules.specs.Operations.{namedObject, objectOf, presentVersion}
 use Rattle.rules.specs.Scope.{Scope, driveScope}
-use Rattle.rules.specs.Story.{asked, versionIn, versionOf}
+use Rattle.rules.specs.Story.{fedFields, versionIn, versionOf}
 use Rattle.rules.proofs.Bare.{missing-is, sees, the-held, the-object}
 use Rattle.rules.proofs.Clear.{asks-for, Clear, deletes-object, exists, number-free, version-is}
 use Rattle.rules.proofs.Renewal.{CanRenew, effect, partition-here, partition-there}
@@ -39,13 +39,13 @@ pub record Passed (l : Ledger) (x : Fields) : Type 0 where
 
 -- the version that a frame names, by the ledger
 version-held : (M : ℕ) (l : Ledger) (es : List Entry) (x : Fields)
-    → ((x .cred .object ≡ 0 → ⊥) → missing (named (sees M l es (x .cred)) (x .cred)) ≡ false)
-    → x .cred .version ≡ present (sees M l es (x .cred)) (x .cred)
+    → ((x .cred .object ≡ 0 → ⊥) → missing (namedObject (sees M l es (x .cred)) (x .cred)) ≡ false)
+    → x .cred .version ≡ presentVersion (sees M l es (x .cred)) (x .cred)
     → versionOf l (x .cred .partition) (x .cred .object) ≡ some (x .cred .version)
-unfolding versionIn present named objectOf
+unfolding versionIn presentVersion namedObject objectOf
 version-held M l es x h e = go (ℕ-discrete (x .cred .object) 0)
   where
-    p : Partition Held
+    p : Partition LedgerObject
     p = partitionAt l (x .cred .partition)
 
     n : ℕ
@@ -55,11 +55,11 @@ version-held M l es x h e = go (ℕ-discrete (x .cred .object) 0)
     go (yes z) = rw (eq-eqb n 0 z) (ap some (sym (e ∙ rw (eq-eqb n 0 z) refl)))
     go (no z) =
         rw (ne-eqb n 0 z)
-        (ap (Option·map (λ (k : Held). k .object .version)) (the-held p n (h z) .1)
+        (ap (Option·map (λ (k : LedgerObject). k .object .version)) (the-held p n (h z) .1)
         ∙ ap some (sym (e ∙ rw (ne-eqb n 0 z) (ap Object.version (the-object p n (h z))))))
 
-pub passed : (M : ℕ) (s : State) (l : Ledger) (c : Call) → Inv M s l → rowOf s c ≡ 0 → Passed l (asks c)
-unfolding clocked named
+pub passed : (M : ℕ) (s : State) (l : Ledger) (c : Call) → Inv M s l → rowOf s c ≡ 0 → Passed l (callFields c)
+unfolding clocked namedObject
 passed M s l c v g = record {
   partition = the-grant M s l c v g .partition;
   version = version;
@@ -76,9 +76,9 @@ passed M s l c v g = record {
 }
   where
     x : Fields
-    x = asks c
+    x = callFields c
 
-    p : Partition Held
+    p : Partition LedgerObject
     p = partitionAt l (x .cred .partition)
 
     ok : Clear (c .frame) (driveScope (fresh s c) (x .cred)) (c .space)
@@ -91,8 +91,8 @@ passed M s l c v g = record {
     version : x .req .operation ≤ 6
         → versionOf l (x .cred .partition) (x .cred .object) ≡ some (x .cred .version)
     version h = version-held M (clocked (c .clock) l) (entries M s l c v) x
-        (λ z. now (λ (t : Scope Object). missing (named t (x .cred)) ≡ false) (exists ok z))
-        (now (λ (t : Scope Object). x .cred .version ≡ present t (x .cred)) (version-is ok h))
+        (λ z. now (λ (t : Scope Object). missing (namedObject t (x .cred)) ≡ false) (exists ok z))
+        (now (λ (t : Scope Object). x .cred .version ≡ presentVersion t (x .cred)) (version-is ok h))
 
     not-zero : {n : ℕ} → 1 ≤ n → n ≡ 0 → ⊥
     not-zero h z = omega arith
@@ -100,21 +100,21 @@ passed M s l c v g = record {
 -- ---- what a call does to partition p: the effect of its grant, or nothing
 pub record Here (M : ℕ) (l : Ledger) (c : Fed) (p : ℕ) : Type 0 where
   pub granted : c .row ≡ 0
-  pub partition : asked c .cred .partition ≡ p
+  pub partition : fedFields c .cred .partition ≡ p
   pub effect : partitionAt (feed M l c) p
-      ≡ effect (operationOf (asked c)) M (asked c) (clocked (c .clock) l) (partitionAt l p)
+      ≡ effect (operationOf (fedFields c)) M (fedFields c) (clocked (c .clock) l) (partitionAt l p)
 
 pub record Still (M : ℕ) (l : Ledger) (c : Fed) (p : ℕ) : Type 0 where
   pub same : partitionAt (feed M l c) p ≡ partitionAt l p
-  pub away : c .row ≡ 0 → asked c .cred .partition ≡ p → ⊥
+  pub away : c .row ≡ 0 → fedFields c .cred .partition ≡ p → ⊥
 
 pub here-or-still : (M : ℕ) (l : Ledger) (c : Fed) (p : ℕ) → length (l .partitions) ≡ 4
-    → (c .row ≡ 0 → Passed l (asked c)) → Here M l c p ⊎ Still M l c p
+    → (c .row ≡ 0 → Passed l (fedFields c)) → Here M l c p ⊎ Still M l c p
 unfolding feed clocked
-here-or-still M l c p four ok = go (ℕ-discrete (c .row) 0) (ℕ-discrete p (asked c .cred .partition))
+here-or-still M l c p four ok = go (ℕ-discrete (c .row) 0) (ℕ-discrete p (fedFields c .cred .partition))
   where
     x : Fields
-    x = asked c
+    x = fedFields c
 
     go : Dec (c .row ≡ 0) → Dec (p ≡ x .cred .partition) → Here M l c p ⊎ Still M l c p
     go (no r) d = inr (record { same = rw (ne-eqb (c .row) 0 r) refl; away = λ z e. r z })

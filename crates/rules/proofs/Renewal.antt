@@ -13,25 +13,25 @@ use borrow.Author.Tests.{eqb-true, ne-eqb}
 use Rattle.lemmas.specs.ListLaws.{nth-update, nth-update-other}
 use Rattle.lemmas.specs.Lists.{change, find, missing, splice}
 use Rattle.lemmas.specs.Tests.{_is_}
-use Rattle.rules.specs.Drive.{Partition, partitionAt, unused}
+use Rattle.rules.specs.Drive.{Partition, partitionAt, emptyPartition}
 use Rattle.rules.specs.declared.Operation.{Operation}
 use Rattle.rules.specs.declared.Operation.the-variants.{Create, Delete, Look, Raise, Read, SetKey, Write}
 use Rattle.rules.specs.Frame.{Fields}
 use Rattle.rules.specs.Ledger.{
   bareScope,
-  gone,
-  Held,
-  heldVersion,
-  joined,
+  ledgerDeleted,
+  LedgerObject,
+  ledgerWithVersion,
+  ledgerCreated,
   Ledger,
-  ledgerAfter,
+  ledgerPerform,
   ledgerScope,
   numberOf,
-  raisedHere,
-  written,
-  wrote,
+  ledgerRaised,
+  ledgerWritten,
+  withBytesWritten,
 }
-use Rattle.rules.specs.Operations.{startOf}
+use Rattle.rules.specs.Operations.{placementStart}
 use Rattle.rules.specs.Scope.{withScope, withPartition}
 use Rattle.rules.specs.Story.{Giving, Renewing, versionIn}
 use Rattle.rules.proofs.Finds.{
@@ -44,74 +44,74 @@ use Rattle.rules.proofs.Finds.{
 }
 
 -- ---- the partition p that the frame names changes so; the others keep their values
-abbrev pub effect : Operation → ℕ → Fields → Ledger → Partition Held → Partition Held
-effect o M x l p = ledgerAfter o (withPartition p (ledgerScope M l (x .cred))) x .partition
+abbrev pub effect : Operation → ℕ → Fields → Ledger → Partition LedgerObject → Partition LedgerObject
+effect o M x l p = ledgerPerform o (withPartition p (ledgerScope M l (x .cred))) x .partition
 
 module _ (M : ℕ) (x : Fields) (l : Ledger) (o : Operation) where
   pub partition-here : x .cred .partition < length (l .partitions)
-      → partitionAt (withScope (x .cred) (ledgerAfter o (ledgerScope M l (x .cred)) x) l) (x .cred .partition)
+      → partitionAt (withScope (x .cred) (ledgerPerform o (ledgerScope M l (x .cred)) x) l) (x .cred .partition)
       ≡ effect o M x l (partitionAt l (x .cred .partition))
   partition-here h = nth-update (x .cred .partition)
-      (λ (old : Partition Held). ledgerAfter o (ledgerScope M l (x .cred)) x .partition) (l .partitions) (unused 0) h
+      (λ (old : Partition LedgerObject). ledgerPerform o (ledgerScope M l (x .cred)) x .partition) (l .partitions) (emptyPartition 0) h
 
   pub partition-there : (r : ℕ) → (r ≡ x .cred .partition → ⊥)
-      → partitionAt (withScope (x .cred) (ledgerAfter o (ledgerScope M l (x .cred)) x) l) r ≡ partitionAt l r
+      → partitionAt (withScope (x .cred) (ledgerPerform o (ledgerScope M l (x .cred)) x) l) r ≡ partitionAt l r
   partition-there r e = nth-update-other (x .cred .partition) r
-      (λ (old : Partition Held). ledgerAfter o (ledgerScope M l (x .cred)) x .partition) (l .partitions) (unused 0) e
+      (λ (old : Partition LedgerObject). ledgerPerform o (ledgerScope M l (x .cred)) x .partition) (l .partitions) (emptyPartition 0) e
 
 -- ---- raise, delete, create: the object's version afterwards
-raised-version : (n w : ℕ) (p : Partition Held) → versionIn p n ≡ some w
-    → versionIn (raisedHere n p) n ≡ some (p .last + 1)
-unfolding versionIn raisedHere
+raised-version : (n w : ℕ) (p : Partition LedgerObject) → versionIn p n ≡ some w
+    → versionIn (ledgerRaised n p) n ≡ some (p .last + 1)
+unfolding versionIn ledgerRaised
 raised-version n w p = go (n is 0)
   where
     v : ℕ
     v = p .last + 1
 
-    of : (o : Option Held) → Option·map (λ (h : Held). h .object .version) o ≡ some w
-        → Option·map (λ (h : Held). h .object .version) (Option·map (heldVersion v) o) ≡ some v
+    of : (o : Option LedgerObject) → Option·map (λ (h : LedgerObject). h .object .version) o ≡ some w
+        → Option·map (λ (h : LedgerObject). h .object .version) (Option·map (ledgerWithVersion v) o) ≡ some v
     of none e = absurd (Option·some-ne-none w (sym e))
     of (some h) e = refl
 
     go : (b : Bool)
-        → cond b (some (p .version)) (Option·map (λ (h : Held). h .object .version) (find numberOf n (p .objects)))
+        → cond b (some (p .version)) (Option·map (λ (h : LedgerObject). h .object .version) (find numberOf n (p .objects)))
         ≡ some w
-        → cond b (some (cond b v (p .version))) (Option·map (λ (h : Held). h .object .version)
-        (find numberOf n (cond b (p .objects) (change numberOf n (heldVersion v) (p .objects))))) ≡ some v
+        → cond b (some (cond b v (p .version))) (Option·map (λ (h : LedgerObject). h .object .version)
+        (find numberOf n (cond b (p .objects) (change numberOf n (ledgerWithVersion v) (p .objects))))) ≡ some v
     go true e = refl
     go false e =
-        ap (Option·map (λ (h : Held). h .object .version))
-        (find-change numberOf n (heldVersion v) (λ h. refl) (p .objects))
+        ap (Option·map (λ (h : LedgerObject). h .object .version))
+        (find-change numberOf n (ledgerWithVersion v) (λ h. refl) (p .objects))
         ∙ of (find numberOf n (p .objects)) e
 
-gone-version : (n : ℕ) (p : Partition Held) (u : ℕ) → (n ≡ 0 → ⊥) → versionIn (gone n p) n ≡ some u → ⊥
-unfolding versionIn gone
+gone-version : (n : ℕ) (p : Partition LedgerObject) (u : ℕ) → (n ≡ 0 → ⊥) → versionIn (ledgerDeleted n p) n ≡ some u → ⊥
+unfolding versionIn ledgerDeleted
 gone-version n p u ne e =
     Option·some-ne-none u (sym e ∙ rw (ne-eqb n 0 ne, find-gone numberOf n (p .objects)) refl)
 
-joined-version : (n size start : ℕ) (p : Partition Held) → (n ≡ 0 → ⊥)
-    → missing (find numberOf n (p .objects)) ≡ true → versionIn (joined n size start p) n ≡ some (p .last + 1)
-unfolding versionIn joined
+joined-version : (n size start : ℕ) (p : Partition LedgerObject) → (n ≡ 0 → ⊥)
+    → missing (find numberOf n (p .objects)) ≡ true → versionIn (ledgerCreated n size start p) n ≡ some (p .last + 1)
+unfolding versionIn ledgerCreated
 joined-version n size start p ne free =
     rw (ne-eqb n 0 ne, find-joined numberOf n new refl (p .objects) free) refl
   where
-    new : Held
+    new : LedgerObject
     new = record {
       object = record { number = n; version = p .last + 1; size = size; start = start };
       bytes = replicate size 0;
     }
 
 -- what a raise, a create and a delete that no row refuses have
-pub record CanRenew (o : Operation) (x : Fields) (p : Partition Held) : Type 0 where
+pub record CanRenew (o : Operation) (x : Fields) (p : Partition LedgerObject) : Type 0 where
   pub raises : o ≡ Raise → versionIn p (x .cred .object) ≡ some (x .cred .version)
   pub creates : (n size : ℕ) → o ≡ Create n size
       → (n ≡ 0 → ⊥) × (missing (find numberOf n (p .objects)) ≡ true)
   pub deletes : o ≡ Delete → x .cred .object ≡ 0 → ⊥
 
-module _ (M : ℕ) (x : Fields) (l : Ledger) (p : Partition Held) where
+module _ (M : ℕ) (x : Fields) (l : Ledger) (p : Partition LedgerObject) where
   -- ---- the last version given
   pub last-rises : (o : Operation) → p .last ≤ effect o M x l p .last
-  unfolding ledgerAfter written raisedHere joined gone
+  unfolding ledgerPerform ledgerWritten ledgerRaised ledgerCreated ledgerDeleted
   last-rises (Read a b) = omega arith
   last-rises (Write a b) = omega arith
   last-rises Look = omega arith
@@ -121,26 +121,26 @@ module _ (M : ℕ) (x : Fields) (l : Ledger) (p : Partition Held) where
   last-rises (SetKey a) = omega arith
 
   pub last-next : (o : Operation) (n : ℕ) → Giving o x n → effect o M x l p .last ≡ p .last + 1
-  unfolding ledgerAfter raisedHere joined
+  unfolding ledgerPerform ledgerRaised ledgerCreated
   last-next o n (inl r) = ap (λ (k : Operation). effect k M x l p .last) (r .0)
   last-next o n (inr r) = ap (λ (k : Operation). effect k M x l p .last) (r .1)
 
   -- ---- what is raised or created has the next version
   pub given-next : (o : Operation) (n : ℕ) → CanRenew o x p → Giving o x n
       → versionIn (effect o M x l p) n ≡ some (p .last + 1)
-  unfolding ledgerAfter
+  unfolding ledgerPerform
   given-next o n can (inl r) =
       subst₂ (λ (k : Operation) (i : ℕ). versionIn (effect k M x l p) i ≡ some (p .last + 1)) (sym (r .0)) (r .1)
       (raised-version (x .cred .object) (x .cred .version) p (can .raises (r .0)))
   given-next o n can (inr r) =
       subst (λ (k : Operation). versionIn (effect k M x l p) n ≡ some (p .last + 1)) (sym (r .1))
-      (joined-version n (r .0) (startOf (bareScope (withPartition p (ledgerScope M l (x .cred)))) (r .0)) p
+      (joined-version n (r .0) (placementStart (bareScope (withPartition p (ledgerScope M l (x .cred)))) (r .0)) p
       (can .creates n (r .0) (r .1) .0) (can .creates n (r .0) (r .1) .1))
 
   -- so a renewed object, if it is there, has it, and it is the last one given
   pub renewed : (o : Operation) (n u : ℕ) → CanRenew o x p → Renewing o x n
       → versionIn (effect o M x l p) n ≡ some u → (u ≡ p .last + 1) × (effect o M x l p .last ≡ p .last + 1)
-  unfolding ledgerAfter
+  unfolding ledgerPerform
   renewed o n u can (inl g) e = (
     sym (Option·some-injective (p .last + 1) u (sym (given-next o n can g) ∙ e)),
     last-next o n g,
@@ -153,52 +153,52 @@ module _ (M : ℕ) (x : Fields) (l : Ledger) (p : Partition Held) where
       → cond (n is 0) (some (p .version)) a ≡ cond (n is 0) (some (p .version)) b
   same-version n e = ap (cond (n is 0) (some (p .version))) e
 
-  of-found : {a b : Option Held} → a ≡ b → Option·map (λ (h : Held). h .object .version) a
-      ≡ Option·map (λ (h : Held). h .object .version) b
-  of-found e = ap (Option·map (λ (h : Held). h .object .version)) e
+  of-found : {a b : Option LedgerObject} → a ≡ b → Option·map (λ (h : LedgerObject). h .object .version) a
+      ≡ Option·map (λ (h : LedgerObject). h .object .version) b
+  of-found e = ap (Option·map (λ (h : LedgerObject). h .object .version)) e
 
-  written-version : (k a : ℕ) (new : List ℕ) (n : ℕ) → versionIn (written k a new p) n ≡ versionIn p n
-  unfolding versionIn written wrote
+  written-version : (k a : ℕ) (new : List ℕ) (n : ℕ) → versionIn (ledgerWritten k a new p) n ≡ versionIn p n
+  unfolding versionIn ledgerWritten withBytesWritten
   written-version k a new n = same-version n (go (ℕ-discrete k n))
     where
-      of : (o : Option Held) → Option·map (λ (h : Held). h .object .version) (Option·map (wrote a new) o)
-          ≡ Option·map (λ (h : Held). h .object .version) o
+      of : (o : Option LedgerObject) → Option·map (λ (h : LedgerObject). h .object .version) (Option·map (withBytesWritten a new) o)
+          ≡ Option·map (λ (h : LedgerObject). h .object .version) o
       of none = refl
       of (some h) = refl
 
       go : Dec (k ≡ n)
-          → Option·map (λ (h : Held). h .object .version)
-          (find numberOf n (change numberOf k (wrote a new) (p .objects)))
-          ≡ Option·map (λ (h : Held). h .object .version) (find numberOf n (p .objects))
-      go (yes e) = rw e (of-found (find-change numberOf n (wrote a new) (λ h. refl) (p .objects))
+          → Option·map (λ (h : LedgerObject). h .object .version)
+          (find numberOf n (change numberOf k (withBytesWritten a new) (p .objects)))
+          ≡ Option·map (λ (h : LedgerObject). h .object .version) (find numberOf n (p .objects))
+      go (yes e) = rw e (of-found (find-change numberOf n (withBytesWritten a new) (λ h. refl) (p .objects))
           ∙ of (find numberOf n (p .objects)))
-      go (no e) = of-found (find-change-other numberOf k n (wrote a new) (λ h. refl) e (p .objects))
+      go (no e) = of-found (find-change-other numberOf k n (withBytesWritten a new) (λ h. refl) e (p .objects))
 
-  raised-other : (k n : ℕ) → (k ≡ n → ⊥) → versionIn (raisedHere k p) n ≡ versionIn p n
-  unfolding versionIn raisedHere
+  raised-other : (k n : ℕ) → (k ≡ n → ⊥) → versionIn (ledgerRaised k p) n ≡ versionIn p n
+  unfolding versionIn ledgerRaised
   raised-other k n ne = go (k is 0) refl (n is 0) refl
     where
       v : ℕ
       v = p .last + 1
 
       go : (b : Bool) → (k is 0) ≡ b → (c : Bool) → (n is 0) ≡ c
-          → cond c (some (cond b v (p .version))) (Option·map (λ (h : Held). h .object .version)
-          (find numberOf n (cond b (p .objects) (change numberOf k (heldVersion v) (p .objects)))))
-          ≡ cond c (some (p .version)) (Option·map (λ (h : Held). h .object .version) (find numberOf n (p .objects)))
+          → cond c (some (cond b v (p .version))) (Option·map (λ (h : LedgerObject). h .object .version)
+          (find numberOf n (cond b (p .objects) (change numberOf k (ledgerWithVersion v) (p .objects)))))
+          ≡ cond c (some (p .version)) (Option·map (λ (h : LedgerObject). h .object .version) (find numberOf n (p .objects)))
       go true e true f = absurd (ne (eqb-true k 0 e ∙ sym (eqb-true n 0 f)))
       go true e false f = refl
       go false e true f = refl
-      go false e false f = of-found (find-change-other numberOf k n (heldVersion v) (λ h. refl) ne (p .objects))
+      go false e false f = of-found (find-change-other numberOf k n (ledgerWithVersion v) (λ h. refl) ne (p .objects))
 
   pub renewed-or-same : (o : Operation) (n : ℕ) → Renewing o x n ⊎ (versionIn (effect o M x l p) n ≡ versionIn p n)
-  unfolding ledgerAfter versionIn joined gone
+  unfolding ledgerPerform versionIn ledgerCreated ledgerDeleted
   renewed-or-same (Read a b) n = inr refl
   renewed-or-same (Write a b) n = inr (written-version (x .cred .object) a (x .payload) n)
   renewed-or-same Look n = inr refl
   renewed-or-same Raise n = go (ℕ-discrete (x .cred .object) n)
     where
       go : Dec (x .cred .object ≡ n)
-          → Renewing Raise x n ⊎ (versionIn (raisedHere (x .cred .object) p) n ≡ versionIn p n)
+          → Renewing Raise x n ⊎ (versionIn (ledgerRaised (x .cred .object) p) n ≡ versionIn p n)
       go (yes e) = inl (inl (inl (refl, e)))
       go (no e) = inr (raised-other (x .cred .object) n e)
   renewed-or-same (Create a b) n = go (ℕ-discrete a n)
@@ -214,33 +214,33 @@ module _ (M : ℕ) (x : Fields) (l : Ledger) (p : Partition Held) where
   renewed-or-same (SetKey a) n = inr refl
 
 -- ---- bytes
-abbrev pub bytesIn : Partition Held → ℕ → List ℕ
-bytesIn p n = Option·getD (Option·map Held.bytes (find numberOf n (p .objects))) []
+abbrev pub bytesIn : Partition LedgerObject → ℕ → List ℕ
+bytesIn p n = Option·getD (Option·map LedgerObject.bytes (find numberOf n (p .objects))) []
 
-found-bytes : {a b : Option Held} → a ≡ b
-    → Option·getD (Option·map Held.bytes a) [] ≡ Option·getD (Option·map Held.bytes b) []
-found-bytes e = ap (λ (o : Option Held). Option·getD (Option·map Held.bytes o) []) e
+found-bytes : {a b : Option LedgerObject} → a ≡ b
+    → Option·getD (Option·map LedgerObject.bytes a) [] ≡ Option·getD (Option·map LedgerObject.bytes b) []
+found-bytes e = ap (λ (o : Option LedgerObject). Option·getD (Option·map LedgerObject.bytes o) []) e
 
 -- the object that is written
-pub bytes-written : (n a : ℕ) (new : List ℕ) (p : Partition Held) → missing (find numberOf n (p .objects)) ≡ false
-    → bytesIn (written n a new p) n ≡ splice (bytesIn p n) a new
-unfolding written wrote missing
+pub bytes-written : (n a : ℕ) (new : List ℕ) (p : Partition LedgerObject) → missing (find numberOf n (p .objects)) ≡ false
+    → bytesIn (ledgerWritten n a new p) n ≡ splice (bytesIn p n) a new
+unfolding ledgerWritten withBytesWritten missing
 bytes-written n a new p h =
-    found-bytes (find-change numberOf n (wrote a new) (λ h. refl) (p .objects)) ∙ of (find numberOf n (p .objects)) h
+    found-bytes (find-change numberOf n (withBytesWritten a new) (λ h. refl) (p .objects)) ∙ of (find numberOf n (p .objects)) h
   where
-    of : (o : Option Held) → missing o ≡ false → Option·getD (Option·map Held.bytes (Option·map (wrote a new) o)) []
-        ≡ splice (Option·getD (Option·map Held.bytes o) []) a new
+    of : (o : Option LedgerObject) → missing o ≡ false → Option·getD (Option·map LedgerObject.bytes (Option·map (withBytesWritten a new) o)) []
+        ≡ splice (Option·getD (Option·map LedgerObject.bytes o) []) a new
     of none e = absurd (true≢false e)
     of (some h) e = refl
 
 -- one that is neither written nor renewed
-pub bytes-same : (M : ℕ) (x : Fields) (l : Ledger) (p : Partition Held) (o : Operation) (n : ℕ)
+pub bytes-same : (M : ℕ) (x : Fields) (l : Ledger) (p : Partition LedgerObject) (o : Operation) (n : ℕ)
     → (Renewing o x n → ⊥) → ((a b : ℕ) → o ≡ Write a b → x .cred .object ≡ n → ⊥)
     → bytesIn (effect o M x l p) n ≡ bytesIn p n
-unfolding ledgerAfter written wrote raisedHere joined gone
+unfolding ledgerPerform ledgerWritten withBytesWritten ledgerRaised ledgerCreated ledgerDeleted
 bytes-same M x l p (Read a b) n r w = refl
 bytes-same M x l p (Write a b) n r w =
-    found-bytes (find-change-other numberOf (x .cred .object) n (wrote a (x .payload)) (λ h. refl) (w a b refl)
+    found-bytes (find-change-other numberOf (x .cred .object) n (withBytesWritten a (x .payload)) (λ h. refl) (w a b refl)
     (p .objects))
 bytes-same M x l p Look n r w = refl
 bytes-same M x l p Raise n r w = go (x .cred .object is 0)
@@ -249,11 +249,11 @@ bytes-same M x l p Raise n r w = go (x .cred .object is 0)
     v = p .last + 1
 
     go : (b : Bool)
-        → Option·getD (Option·map Held.bytes (find numberOf n (cond b (p .objects)
-        (change numberOf (x .cred .object) (heldVersion v) (p .objects))))) []
+        → Option·getD (Option·map LedgerObject.bytes (find numberOf n (cond b (p .objects)
+        (change numberOf (x .cred .object) (ledgerWithVersion v) (p .objects))))) []
         ≡ bytesIn p n
     go true = refl
-    go false = found-bytes (find-change-other numberOf (x .cred .object) n (heldVersion v) (λ h. refl)
+    go false = found-bytes (find-change-other numberOf (x .cred .object) n (ledgerWithVersion v) (λ h. refl)
         (λ e. r (inl (inl (refl, e)))) (p .objects))
 bytes-same M x l p (Create a b) n r w =
     found-bytes (find-joined-other numberOf n _ (λ e. r (inl (inr (b, ap (λ (i : ℕ). Create i b) e)))) (p .objects))

@@ -13,11 +13,11 @@ use Rattle.lemmas.specs.BigEndian.{bigEndian}
 use Rattle.lemmas.specs.ListLaws.{every-member, found}
 use Rattle.lemmas.specs.Lists.{part, same, splice}
 use Rattle.lemmas.specs.Parts.{length-part}
-use Rattle.lemmas.specs.Rows.{firstRow}
+use Rattle.lemmas.specs.RowTable.{firstRow}
 use Rattle.lemmas.specs.Same.{same-refl}
 use Rattle.lemmas.specs.Tests.{_is_, _isnt_, _over_, and-l, and-r, or-intro-l}
 use Rattle.digest.specs.Hmac.{hmac}
-use Rattle.digest.specs.Laws.{length-hmac}
+use Rattle.digest.specs.DigestLaws.{length-hmac}
 use Rattle.rules.specs.declared.Object.{Object}
 use Rattle.rules.specs.declared.Operation.the-variants.{Read}
 use Rattle.rules.specs.declared.Request.{Request}
@@ -26,13 +26,13 @@ use Rattle.rules.specs.Demands.{RepliesBack}
 use Rattle.rules.specs.Drive.{Drive, Partition, quarter, refresh, sound, soundObject}
 use Rattle.rules.specs.Frame.{Fields, fields, operationOf, requestAt}
 use Rattle.rules.specs.Gate.{Answer, Call, gate, granted}
-use Rattle.rules.specs.Ledger.{start}
+use Rattle.rules.specs.Ledger.{ledgerStart}
 use Rattle.rules.specs.Operations.{
   credentialKey,
   extentStart,
   head,
   headed,
-  named,
+  namedObject,
   noObject,
   objectOf,
   perform,
@@ -42,7 +42,7 @@ use Rattle.rules.specs.Operations.{
   resultLength,
   sealed,
 }
-use Rattle.rules.specs.Rows.{moves, rows}
+use Rattle.rules.specs.Rows.{isTransfer, rows}
 use Rattle.rules.specs.Scope.{Scope, driveScope}
 use Rattle.rules.proofs.Answers.{gate-granted, gate-row}
 use Rattle.rules.proofs.Clear.{asks-for, Clear, cleared, in-four, in-object, in-seven, is-sound, read-moves, size-is, there}
@@ -77,8 +77,8 @@ module _ {f : List ℕ} {s : Scope Object} {space : List ℕ} (g : Clear f s spa
   abbrev x : Fields
   x = fields f
 
-  pub sound-named : moves (x .req) ≡ true → SoundObject (s .quarter) (s .partition .last) (objectOf s (x .cred))
-  unfolding objectOf named
+  pub sound-named : isTransfer (x .req) ≡ true → SoundObject (s .quarter) (s .partition .last) (objectOf s (x .cred))
+  unfolding objectOf namedObject
   sound-named h =
       let p : Partition Object = s .partition in
       let a = found Object.number (x .cred .object) (p .objects) (there g h) in
@@ -86,7 +86,7 @@ module _ {f : List ℕ} {s : Scope Object} {space : List ℕ} (g : Clear f s spa
       (object-is (s .quarter) (p .last) (a .0) (every-member (soundObject (s .quarter) (p .last)) (p .objects) (a .0)
       (partition-is (s .quarter) p k .each) (a .2)))
 
-  pub read-room : (M : ℕ) → s .quarter ≡ quarter M → moves (x .req) ≡ true
+  pub read-room : (M : ℕ) → s .quarter ≡ quarter M → isTransfer (x .req) ≡ true
       → extentStart s (x .cred) + x .req .A + x .req .B ≤ M
   unfolding extentStart
   read-room M e h =
@@ -127,11 +127,11 @@ module _
     unfolding refresh
     sound-u = at-sound (quarter (d .size)) (d .tables) (y .cred .partition) (tables-of d sound-d)
 
-    fits : moves (y .req) ≡ true → extentStart u (y .cred) + y .req .A + y .req .B ≤ length m
+    fits : isTransfer (y .req) ≡ true → extentStart u (y .cred) + y .req .A + y .req .B ≤ length m
     unfolding refresh
     fits h = omega (arith, read-room ok sound-u (d .size) refl h, size-is d m (c .frame) (c .clock) (c .space) g)
 
-    few : moves (y .req) ≡ true → y .req .B ≤ 4194304
+    few : isTransfer (y .req) ≡ true → y .req .B ≤ 4194304
     unfolding refresh
     few h = omega (
       arith,

@@ -11,14 +11,14 @@ use lib.Seq.{drop-at, drop-drop, take-all, take-at}
 use borrow.Author.Tests.{eq-eqb, eqb-true, le-ltb, ltb-false, not-false}
 use Rattle.lemmas.specs.BigEndian.{number-left, number-right, numberAt}
 use Rattle.lemmas.specs.Lists.{every, part, splice}
-use Rattle.lemmas.specs.Rows.{applies, firstRow, none-applies}
+use Rattle.lemmas.specs.RowTable.{applies, firstRow, none-applies}
 use Rattle.lemmas.specs.Tests.{_is_, _isnt_, none-of, or-l, or-r}
 use Rattle.rules.specs.declared.Credential.{Credential}
 use Rattle.rules.specs.declared.Request.{Request}
 use Rattle.rules.specs.Client.{badRecords, build, buildRows, frameOf, recordFaults, row26}
 use Rattle.rules.specs.Demands.{builtFrame, ReadsBack}
 use Rattle.digest.specs.Hmac.{hmac}
-use Rattle.digest.specs.Laws.{length-hmac}
+use Rattle.digest.specs.DigestLaws.{length-hmac}
 use Rattle.rules.specs.Frame.{covered, credentialAt, Fields, fields, requestAt}
 use Rattle.rules.specs.Rows.{frameRows, row2, row5}
 

@@ -13,21 +13,21 @@ use Rattle.lemmas.specs.Parts.{length-part, part-part}
 use Rattle.lemmas.specs.Tests.{_is_}
 use Rattle.rules.specs.declared.Entry.{Entry}
 use Rattle.rules.specs.declared.Object.{Object}
-use Rattle.rules.specs.Demands.{answer, bytesOf, does, State}
+use Rattle.rules.specs.Demands.{answer, bytesOf, callOperation, State}
 use Rattle.digest.specs.Hmac.{hmac}
-use Rattle.digest.specs.Laws.{length-hmac}
+use Rattle.digest.specs.DigestLaws.{length-hmac}
 use Rattle.rules.specs.Drive.{Keys, Partition, partitionAt, quarter}
 use Rattle.rules.specs.declared.Operation.{Operation}
 use Rattle.rules.specs.declared.Operation.the-variants.{Create, Delete, Look, Raise, Read, SetKey, Write}
 use Rattle.rules.specs.Frame.{Fields, fields, operationOf}
 use Rattle.rules.specs.Gate.{Call, granted}
-use Rattle.rules.specs.Ledger.{clocked, Held, Ledger, numberOf}
+use Rattle.rules.specs.Ledger.{clocked, LedgerObject, Ledger, numberOf}
 use Rattle.rules.specs.Operations.{
   credentialKey,
   extentStart,
   head,
   headed,
-  named,
+  namedObject,
   objectOf,
   perform,
   reply,
@@ -51,11 +51,11 @@ abbrev pub piece : Scope Object → Fields → List ℕ → ℕ → ℕ → List
 piece s x m a b = part m (extentStart s (x .cred) + a) b
 
 read-bytes : (M : ℕ) (m : List ℕ) (l : Ledger) → Good M m l → (es : List Entry) (x : Fields) (a b : ℕ)
-    → missing (named (sees M l es (x .cred)) (x .cred)) ≡ false
+    → missing (namedObject (sees M l es (x .cred)) (x .cred)) ≡ false
     → a + b ≤ objectOf (sees M l es (x .cred)) (x .cred) .size
     → (piece (sees M l es (x .cred)) x m a b ≡ part (bytesOf l x) a b)
     × (length (piece (sees M l es (x .cred)) x m a b) ≡ b)
-unfolding extentStart bytesOf objectOf named
+unfolding extentStart bytesOf objectOf namedObject
 read-bytes M m l g es x a b e fit = (
   ap (λ (o : Object). part m (p * quarter M + o .start + a) b) object
       ∙ sym (part-part m (p * quarter M + h .object .start) (h .object .size) a b fit′ room)
@@ -70,10 +70,10 @@ read-bytes M m l g es x a b e fit = (
     n : ℕ
     n = x .cred .object
 
-    here : Partition Held
+    here : Partition LedgerObject
     here = partitionAt l p
 
-    h : Held
+    h : LedgerObject
     h = the-held here n e .0
 
     object : objectOf (sees M l es (x .cred)) (x .cred) ≡ h .object
@@ -90,8 +90,8 @@ read-bytes M m l g es x a b e fit = (
       g .size,
     )
 
-    held : Option·getD (Option·map Held.bytes (find numberOf n (here .objects))) [] ≡ h .bytes
-    held = ap (λ (o : Option Held). Option·getD (Option·map Held.bytes o) []) (the-held here n e .1)
+    held : Option·getD (Option·map LedgerObject.bytes (find numberOf n (here .objects))) [] ≡ h .bytes
+    held = ap (λ (o : Option LedgerObject). Option·getD (Option·map LedgerObject.bytes o) []) (the-held here n e .1)
 
 module _ (M : ℕ) (s : State) (l : Ledger) (c : Call) (v : Inv M s l) (r : answer s c .row ≡ 0) where
   abbrev x : Fields
@@ -100,7 +100,7 @@ module _ (M : ℕ) (s : State) (l : Ledger) (c : Call) (v : Inv M s l) (r : answ
   abbrev sight : Scope Object
   sight = driveScope (fresh s c) (x .cred)
 
-  both-known : (a b : ℕ) → does c ≡ Read a b
+  both-known : (a b : ℕ) → callOperation c ≡ Read a b
       → (piece sight x (s .medium) a b ≡ part (bytesOf l x) a b) × (length (piece sight x (s .medium) a b) ≡ b)
   unfolding clocked bytesOf
   both-known a b o =
@@ -110,11 +110,11 @@ module _ (M : ℕ) (s : State) (l : Ledger) (c : Call) (v : Inv M s l) (r : answ
       subst (λ (t : Scope Object). (piece t x (s .medium) a b ≡ part (bytesOf l x) a b)
       × (length (piece t x (s .medium) a b) ≡ b)) (sym e)
       (read-bytes M (s .medium) (clocked (c .clock) l) (fresh-inv M s l c v .good) (sight .memory) x a b
-      (subst (λ (t : Scope Object). missing (named t (x .cred)) ≡ false) e (there k (read-moves k o)))
+      (subst (λ (t : Scope Object). missing (namedObject t (x .cred)) ≡ false) e (there k (read-moves k o)))
       (subst (λ (t : Scope Object). a + b ≤ objectOf t (x .cred) .size) e
       (omega (arith, n .1, n .2, in-object k (read-moves k o)))))
 
-  pub read-shown : (a b : ℕ) → does c ≡ Read a b → part (answer s c .space) 8 b ≡ part (bytesOf l x) a b
+  pub read-shown : (a b : ℕ) → callOperation c ≡ Read a b → part (answer s c .space) 8 b ≡ part (bytesOf l x) a b
   unfolding granted reply perform
   read-shown a b o =
       let res : List ℕ = piece sight x (s .medium) a b in
@@ -161,7 +161,7 @@ reply-length k x r e =
 
 pub answer-length : (M : ℕ) (s : State) (l : Ledger) (c : Call) → Inv M s l → answer s c .row ≡ 0
     → answer s c .length ≡ length (reply (fresh s c .tables .keys) (fields (c .frame))
-    (perform (does c) (driveScope (fresh s c) (fields (c .frame) .cred)) (fields (c .frame)) (s .medium) .result))
+    (perform (callOperation c) (driveScope (fresh s c) (fields (c .frame) .cred)) (fields (c .frame)) (s .medium) .result))
 unfolding granted
 answer-length M s l c v r =
     ap (λ a. a .length) (answer-granted M s l c v e)

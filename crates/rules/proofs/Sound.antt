@@ -25,18 +25,18 @@ use Rattle.lemmas.specs.Tests.{_is_, _isnt_, and-l, and-r, both}
 use Rattle.rules.specs.declared.Object.{Object}
 use Rattle.rules.specs.Drive.{
   apart,
-  changed,
+  partitionWith,
   Partition,
   partitionAt,
   soundObject,
   soundPartition,
   Tables,
-  unused,
+  emptyPartition,
 }
 use Rattle.rules.specs.declared.Operation.{Operation}
 use Rattle.rules.specs.declared.Operation.the-variants.{Create, Delete, Look, Raise, Read, SetKey, Write}
 use Rattle.rules.specs.Frame.{Fields}
-use Rattle.rules.specs.Operations.{created, deleted, perform, raised, startOf, withVersion}
+use Rattle.rules.specs.Operations.{created, deleted, perform, raised, placementStart, withVersion}
 use Rattle.rules.specs.Scope.{withScope, Scope}
 use Rattle.rules.proofs.Placing.{clearOf, Placed}
 
@@ -76,9 +76,9 @@ partition-sound : (q : ℕ) (p : Partition Object) → SoundPartition q p → so
 unfolding soundPartition
 partition-sound q p s = search (both, le-leb)
 
-pub unused-sound : (q F : ℕ) → soundPartition q (unused F) ≡ true
+pub unused-sound : (q F : ℕ) → soundPartition q (emptyPartition F) ≡ true
 unfolding every pairs
-unused-sound q F = partition-sound q (unused F) (record { count = omega arith; each = refl; pair = refl })
+unused-sound q F = partition-sound q (emptyPartition F) (record { count = omega arith; each = refl; pair = refl })
 
 -- a later last version
 later : (q v : ℕ) (l : List Object) → every (soundObject q v) l ≡ true → every (soundObject q (v + 1)) l ≡ true
@@ -116,7 +116,7 @@ raised-sound q n p h = partition-sound q (raised n p) (go (n is 0))
     same a b false true = refl
     same a b false false = refl
 
-    go : (b : Bool) → SoundPartition q (changed (cond b v (p .version)) v
+    go : (b : Bool) → SoundPartition q (partitionWith (cond b v (p .version)) v
         (cond b (p .objects) (map f (p .objects))) p)
     go true = record { count = s .count; each = later q (p .last) (p .objects) (s .each); pair = s .pair }
     go false = record {
@@ -174,7 +174,7 @@ pub record CanCreate (s : Scope Object) (number size : ℕ) : Type 0 where
   pub size-one : 1 ≤ size
   pub free : every (λ (a : Object). a .number isnt number) (s .partition .objects) ≡ true
   pub room : length (s .partition .objects) < 16
-  pub place : Placed (s .quarter) (s .partition .objects) size (startOf s size)
+  pub place : Placed (s .quarter) (s .partition .objects) size (placementStart s size)
 
 abbrev pub SoundScope : Scope Object → Type 0
 SoundScope s = soundPartition (s .quarter) (s .partition) ≡ true
@@ -189,7 +189,7 @@ scope-sound Look s x m h c = h
 scope-sound Raise s x m h c = raised-sound (s .quarter) (x .cred .object) (s .partition) h
 scope-sound (Create a b) s x m h c =
     let k = c a b refl in
-    created-sound (s .quarter) a b (startOf s b) (s .partition) h
+    created-sound (s .quarter) a b (placementStart s b) (s .partition) h
     (k .number-one) (k .size-one) (k .free) (k .room) (k .place)
 scope-sound Delete s x m h c = deleted-sound (s .quarter) (x .cred .object) (s .partition) h
 scope-sound (SetKey a) s x m h c = h
@@ -199,10 +199,10 @@ abbrev pub SoundTables : ℕ → Tables Object → Type 0
 SoundTables q t = every (soundPartition q) (t .partitions) ≡ true
 
 pub at-sound : (q : ℕ) (t : Tables Object) (p : ℕ) → SoundTables q t → soundPartition q (partitionAt t p) ≡ true
-at-sound q t p h = every-nth (soundPartition q) (t .partitions) p (unused 0) (unused-sound q 0) h
+at-sound q t p h = every-nth (soundPartition q) (t .partitions) p (emptyPartition 0) (unused-sound q 0) h
 
 pub back-sound : (q : ℕ) (x : Fields) (s : Scope Object) (t : Tables Object) → soundPartition q (s .partition) ≡ true
     → SoundTables q t → SoundTables q (withScope (x .cred) s t)
 back-sound q x s t k h =
     every-update (soundPartition q) (x .cred .partition) (λ (old : Partition Object). s .partition) (t .partitions)
-    (unused 0) k h
+    (emptyPartition 0) k h

@@ -9,11 +9,11 @@ use lib.ListN.{length, length-map}
 use borrow.Author.Tests.{eq-eqb, eqb-false, eqb-true, le-leb, ne-eqb}
 use Rattle.lemmas.specs.ListLaws.{length-update}
 use Rattle.lemmas.specs.Lists.{every, keep}
-use Rattle.lemmas.specs.Rows.{firstRow}
+use Rattle.lemmas.specs.RowTable.{firstRow}
 use Rattle.lemmas.specs.Tests.{_is_, bool-cases, both}
 use Rattle.rules.specs.declared.Entry.{Entry}
 use Rattle.rules.specs.declared.Object.{Object}
-use Rattle.rules.specs.Demands.{answer, does, State, step}
+use Rattle.rules.specs.Demands.{answer, callOperation, State, step}
 use Rattle.rules.specs.Drive.{
   Drive,
   lives,
@@ -25,9 +25,9 @@ use Rattle.rules.specs.Drive.{
   Tables,
   withHighWater,
 }
-use Rattle.rules.specs.Frame.{Fields, fields, memory}
+use Rattle.rules.specs.Frame.{Fields, fields, memoryIndex}
 use Rattle.rules.specs.Gate.{Answer, Call, granted, refused, wholeAnswer}
-use Rattle.rules.specs.Ledger.{clocked, Fed, feed, Ledger, ledgerAfter, ledgerScope, tablesOf}
+use Rattle.rules.specs.Ledger.{clocked, Fed, feed, Ledger, ledgerPerform, ledgerScope, tablesOf}
 use Rattle.rules.specs.Operations.{perform, remember}
 use Rattle.rules.specs.Rows.{row1, rows}
 use Rattle.rules.specs.Scope.{withScope, driveWithScope, Scope, driveScope, tablesScope, withPartition}
@@ -132,10 +132,10 @@ module _ (M : ℕ) (s : State) (l : Ledger) (c : Call) (v : Inv M s l) where
   pub clear-of : rowOf s c ≡ 0 → Clear (c .frame) (driveScope (fresh s c) (x .cred)) (c .space)
   clear-of g = cleared (s .drive) (s .medium) (c .frame) (c .clock) (c .space) g
 
-  pub the-grant : rowOf s c ≡ 0 → Grant (does c) (sees M now entries (x .cred)) x
+  pub the-grant : rowOf s c ≡ 0 → Grant (callOperation c) (sees M now entries (x .cred)) x
   the-grant g =
       let k : sound (fresh s c) ≡ true = inv-sound M (record { drive = fresh s c; medium = s .medium }) now fresh-inv in
-      subst (λ (t : Scope Object). Grant (does c) t x) sees-is
+      subst (λ (t : Scope Object). Grant (callOperation c) t x) sees-is
       (grant (clear-of g) (at-sound (quarter (fresh s c .size)) (fresh s c .tables) (x .cred .partition)
       (tables-of (fresh s c) k)))
 
@@ -146,7 +146,7 @@ module _ (M : ℕ) (s : State) (l : Ledger) (c : Call) (v : Inv M s l) where
       record { drive = driveWithScope (x .cred) (a .drive) (fresh s c); medium = a .medium }
 
   abbrev granted-ledger : Ledger
-  granted-ledger = withScope (x .cred) (ledgerAfter (does c) (ledgerScope M now (x .cred)) x) now
+  granted-ledger = withScope (x .cred) (ledgerPerform (callOperation c) (ledgerScope M now (x .cred)) x) now
 
   granted-inv : rowOf s c ≡ 0 → Inv M granted-state granted-ledger
   unfolding granted
@@ -154,13 +154,13 @@ module _ (M : ℕ) (s : State) (l : Ledger) (c : Call) (v : Inv M s l) where
     small = w .small;
     size = w .size;
     tables =
-        (λ i. withScope (x .cred) (perform (does c) (sees-is i) x (s .medium) .scope) (w .tables i))
+        (λ i. withScope (x .cred) (perform (callOperation c) (sees-is i) x (s .medium) .scope) (w .tables i))
         ∙ ap (λ (t : Scope Object). withScope (x .cred) t (tablesOf now))
-        (bare-after (does c) (ledgerScope M now (x .cred)) entries x (s .medium))
-        ∙ sym (bare-back x (ledgerAfter (does c) (ledgerScope M now (x .cred)) x) now);
-    good = subst (λ (t : Scope Object). Good M (perform (does c) t x (s .medium) .medium) granted-ledger) (sym sees-is)
-        (good-after M (s .medium) now (w .good) (does c) entries x (the-grant g));
-    five = length-update (memory (x .cred)) (λ (old : List Entry). remember x entries) (fresh s c .memories) ∙ w .five;
+        (bare-after (callOperation c) (ledgerScope M now (x .cred)) entries x (s .medium))
+        ∙ sym (bare-back x (ledgerPerform (callOperation c) (ledgerScope M now (x .cred)) x) now);
+    good = subst (λ (t : Scope Object). Good M (perform (callOperation c) t x (s .medium) .medium) granted-ledger) (sym sees-is)
+        (good-after M (s .medium) now (w .good) (callOperation c) entries x (the-grant g));
+    five = length-update (memoryIndex (x .cred)) (λ (old : List Entry). remember x entries) (fresh s c .memories) ∙ w .five;
     short = short-entered (fresh s c) x (clear22 (clear-of g)) (w .short);
   }
     where

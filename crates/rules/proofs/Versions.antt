@@ -12,13 +12,13 @@ use borrow.Author.Tests.{eq-eqb, eqb-true}
 use Rattle.lemmas.specs.Lists.{find, splice}
 use Rattle.lemmas.specs.Tests.{_is_, and-l, and-r, bool-cases, both}
 use Rattle.rules.specs.Demands.{answer, fed, State, step}
-use Rattle.rules.specs.Drive.{format, Partition, partitionAt, unused}
+use Rattle.rules.specs.Drive.{format, Partition, partitionAt, emptyPartition}
 use Rattle.rules.specs.declared.Operation.{Operation}
 use Rattle.rules.specs.declared.Operation.the-variants.{Write}
 use Rattle.rules.specs.Frame.{Fields, operation, operationOf}
 use Rattle.rules.specs.Gate.{Call}
-use Rattle.rules.specs.Ledger.{clocked, Fed, feed, Held, Ledger, ledger, ledgerAfter, start, written}
-use Rattle.rules.specs.Story.{asked, Gives, lastOf, OfEveryList, Renewing, Renews, versionIn, versionOf, writes}
+use Rattle.rules.specs.Ledger.{clocked, Fed, feed, LedgerObject, Ledger, ledger, ledgerPerform, ledgerStart, ledgerWritten}
+use Rattle.rules.specs.Story.{fedFields, Gives, lastOf, OfEveryList, Renewing, Renews, versionIn, versionOf, writes}
 use Rattle.rules.proofs.Clear.{asks-for}
 use Rattle.rules.proofs.Demand.{format-inv}
 use Rattle.rules.proofs.Passed.{Here, here-or-still, Passed, passed, Still}
@@ -46,7 +46,7 @@ pub record Sane (l : Ledger) : Type 0 where
 
 unfoldable pub Kept : ℕ → Ledger → List Fed → Type 0
 Kept M l [] = Sane l
-Kept M l (c ∷ cs) = Sane l × (c .row ≡ 0 → Passed l (asked c)) × Kept M (feed M l c) cs
+Kept M l (c ∷ cs) = Sane l × (c .row ≡ 0 → Passed l (fedFields c)) × Kept M (feed M l c) cs
 
 -- versions of object n in partition p are from w on, now and later
 pub record Beyond (w p n : ℕ) (l : Ledger) : Type 0 where
@@ -54,9 +54,9 @@ pub record Beyond (w p n : ℕ) (l : Ledger) : Type 0 where
   pub version : (u : ℕ) → versionOf l p n ≡ some u → w ≤ u
 
 -- ---- one call
-module _ (M : ℕ) (l : Ledger) (c : Fed) (s : Sane l) (ok : c .row ≡ 0 → Passed l (asked c)) where
+module _ (M : ℕ) (l : Ledger) (c : Fed) (s : Sane l) (ok : c .row ≡ 0 → Passed l (fedFields c)) where
   abbrev x : Fields
-  x = asked c
+  x = fedFields c
 
   abbrev now : Ledger
   now = clocked (c .clock) l
@@ -75,9 +75,9 @@ module _ (M : ℕ) (l : Ledger) (c : Fed) (s : Sane l) (ok : c .row ≡ 0 → Pa
   last-step p = go (at p)
     where
       go : Here M l c p ⊎ Still M l c p → lastOf l p ≤ lastOf next p
-      go (inl h) = subst (λ (r : Partition Held). lastOf l p ≤ r .last) (sym (h .effect))
+      go (inl h) = subst (λ (r : Partition LedgerObject). lastOf l p ≤ r .last) (sym (h .effect))
           (last-rises M x now (partitionAt l p) (operationOf x))
-      go (inr h) = subst (λ (r : Partition Held). lastOf l p ≤ r .last) (sym (h .same)) (omega arith)
+      go (inr h) = subst (λ (r : Partition LedgerObject). lastOf l p ≤ r .last) (sym (h .same)) (omega arith)
 
   -- what is raised or created has the next one
   pub next-step : (p n : ℕ) → Gives p n c
@@ -87,9 +87,9 @@ module _ (M : ℕ) (l : Ledger) (c : Fed) (s : Sane l) (ok : c .row ≡ 0 → Pa
       go : Here M l c p ⊎ Still M l c p
           → (lastOf next p ≡ lastOf l p + 1) × (versionOf next p n ≡ some (lastOf l p + 1))
       go (inl h) = (
-        ap (λ (r : Partition Held). r .last) (h .effect)
+        ap (λ (r : Partition LedgerObject). r .last) (h .effect)
             ∙ last-next M x now (partitionAt l p) (operationOf x) n (g .object),
-        ap (λ (r : Partition Held). versionIn r n) (h .effect)
+        ap (λ (r : Partition LedgerObject). versionIn r n) (h .effect)
             ∙ given-next M x now (partitionAt l p) (operationOf x) n (can p h) (g .object),
       )
       go (inr h) = absurd (h .away (g .granted) (g .partition))
@@ -101,8 +101,8 @@ module _ (M : ℕ) (l : Ledger) (c : Fed) (s : Sane l) (ok : c .row ≡ 0 → Pa
   new-here : (p n u : ℕ) → Here M l c p → Renewing (operationOf x) x n → versionOf next p n ≡ some u → New p u
   new-here p n u h r e =
       let k = renewed M x now (partitionAt l p) (operationOf x) n u (can p h) r
-      (ap (λ (q : Partition Held). versionIn q n) (sym (h .effect)) ∙ e) in
-      (k .0, ap (λ (q : Partition Held). q .last) (h .effect) ∙ k .1)
+      (ap (λ (q : Partition LedgerObject). versionIn q n) (sym (h .effect)) ∙ e) in
+      (k .0, ap (λ (q : Partition LedgerObject). q .last) (h .effect) ∙ k .1)
 
   from-step : (p n u : ℕ) → versionOf next p n ≡ some u → (versionOf l p n ≡ some u) ⊎ New p u
   from-step p n u e = go (at p)
@@ -111,11 +111,11 @@ module _ (M : ℕ) (l : Ledger) (c : Fed) (s : Sane l) (ok : c .row ≡ 0 → Pa
           ⊎ (versionIn (effect (operationOf x) M x now (partitionAt l p)) n ≡ versionOf l p n)
           → (versionOf l p n ≡ some u) ⊎ New p u
       here h (inl r) = inr (new-here p n u h r e)
-      here h (inr k) = inl (sym k ∙ ap (λ (q : Partition Held). versionIn q n) (sym (h .effect)) ∙ e)
+      here h (inr k) = inl (sym k ∙ ap (λ (q : Partition LedgerObject). versionIn q n) (sym (h .effect)) ∙ e)
 
       go : Here M l c p ⊎ Still M l c p → (versionOf l p n ≡ some u) ⊎ New p u
       go (inl h) = here h (renewed-or-same M x now (partitionAt l p) (operationOf x) n)
-      go (inr h) = inl (ap (λ (q : Partition Held). versionIn q n) (sym (h .same)) ∙ e)
+      go (inr h) = inl (ap (λ (q : Partition LedgerObject). versionIn q n) (sym (h .same)) ∙ e)
 
   pub given-step : Given next
   given-step p n v e = go (from-step p n v e)
@@ -172,14 +172,14 @@ module _ (M : ℕ) (l : Ledger) (c : Fed) (s : Sane l) (ok : c .row ≡ 0 → Pa
   -- an object that is not renewed changes by the call's write, if it is one to it
   pub bytes-step : (p n : ℕ) → (Renews p n c → ⊥)
       → bytesAt next p n ≡ cond (writes p n c) (splice (bytesAt l p n) (x .req .A) (x .payload)) (bytesAt l p n)
-  unfolding ledgerAfter
+  unfolding ledgerPerform
   bytes-step p n r = go (at p) (bool-cases (writes p n c))
     where
       wrote : Here M l c p → Writes p n → bytesAt next p n ≡ splice (bytesAt l p n) (x .req .A) (x .payload)
       wrote h w =
-          ap (λ (q : Partition Held). bytesIn q n) (h .effect)
+          ap (λ (q : Partition LedgerObject). bytesIn q n) (h .effect)
           ∙ ap (λ (o : Operation). bytesIn (effect o M x now (partitionAt l p)) n) (w .1)
-          ∙ subst₂ (λ (q k : ℕ). bytesIn (written (x .cred .object) (x .req .A) (x .payload) (partitionAt l q)) k
+          ∙ subst₂ (λ (q k : ℕ). bytesIn (ledgerWritten (x .cred .object) (x .req .A) (x .payload) (partitionAt l q)) k
           ≡ splice (bytesAt l q k) (x .req .A) (x .payload)) (w .2) (w .3)
           (bytes-written (x .cred .object) (x .req .A) (x .payload) (partitionAt l (x .cred .partition))
           (ok (w .0) .writes (x .req .A) (x .req .B) (w .1)))
@@ -188,12 +188,12 @@ module _ (M : ℕ) (l : Ledger) (c : Fed) (s : Sane l) (ok : c .row ≡ 0 → Pa
           → bytesAt next p n ≡ cond (writes p n c) (splice (bytesAt l p n) (x .req .A) (x .payload)) (bytesAt l p n)
       go (inl h) (inl e) = rw e (wrote h (writes-is p n e))
       go (inl h) (inr e) =
-          rw e (ap (λ (q : Partition Held). bytesIn q n) (h .effect)
+          rw e (ap (λ (q : Partition LedgerObject). bytesIn q n) (h .effect)
           ∙ bytes-same M x now (partitionAt l p) (operationOf x) n
           (λ k. r (record { granted = h .granted; partition = h .partition; object = k }))
           (λ a b o k. true≢false (sym (is-writes p n a b (h .granted) o (h .partition) k) ∙ e)))
       go (inr h) (inl e) = absurd (h .away (writes-is p n e .0) (writes-is p n e .2))
-      go (inr h) (inr e) = rw e (ap (λ (q : Partition Held). bytesIn q n) (h .same))
+      go (inr h) (inr e) = rw e (ap (λ (q : Partition LedgerObject). bytesIn q n) (h .same))
 
 -- ---- lists
 pub kept-sane : (M : ℕ) (l : Ledger) (cs : List Fed) → Kept M l cs → Sane l
@@ -213,7 +213,7 @@ unfolding Kept fed
 run-kept M s l [] v g = record { four = v .good .four; given = g }
 run-kept M s l (c ∷ cs) v g =
     let sane : Sane l = record { four = v .good .four; given = g } in
-    let ok : answer s c .row ≡ 0 → Passed l (asked (fedOf s c)) = λ r. passed M s l c v (row-zero M s l c v r) in (
+    let ok : answer s c .row ≡ 0 → Passed l (fedFields (fedOf s c)) = λ r. passed M s l c v (row-zero M s l c v r) in (
       sane,
       ok,
       run-kept M (step s c) (feed M l (fedOf s c)) cs (step-inv M s l c v)
@@ -221,7 +221,7 @@ run-kept M s l (c ∷ cs) v g =
     )
 
 -- from a format on
-unused-given : (F n v : ℕ) → versionIn (unused F) n ≡ some v → v ≤ F
+unused-given : (F n v : ℕ) → versionIn (emptyPartition F) n ≡ some v → v ≤ F
 unfolding versionIn find
 unused-given F n v e = go (n is 0) e
   where
@@ -229,8 +229,8 @@ unused-given F n v e = go (n is 0) e
     go true k = omega (arith, Option·some-injective F v k)
     go false k = absurd (Option·some-ne-none v (sym k))
 
-start-given : (F : ℕ) (master drive : List ℕ) → Given (start F master drive)
-unfolding start
+start-given : (F : ℕ) (master drive : List ℕ) → Given (ledgerStart F master drive)
+unfolding ledgerStart
 start-given F master drive zero n v e = unused-given F n v e
 start-given F master drive (suc zero) n v e = unused-given F n v e
 start-given F master drive (suc (suc zero)) n v e = unused-given F n v e
@@ -242,4 +242,4 @@ all-kept medium F master drive calls e =
     run-kept (length medium) (record {
       drive = format medium F master drive .drive;
       medium = format medium F master drive .medium;
-    }) (start F master drive) calls (format-inv medium F master drive e) (start-given F master drive)
+    }) (ledgerStart F master drive) calls (format-inv medium F master drive e) (start-given F master drive)

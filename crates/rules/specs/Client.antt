@@ -4,7 +4,7 @@ use mathlib.Core.List.{[], _++_, _∷_, List}
 use Prim.Native.Nat.{_+_, ℕ}
 use lib.ListN.{replicate, take, length}
 use Rattle.lemmas.specs.Lists.{part, same, splice}
-use Rattle.lemmas.specs.Rows.{firstRow, line, Row}
+use Rattle.lemmas.specs.RowTable.{firstRow, line, Row}
 use Rattle.lemmas.specs.Tests.{_is_, _isnt_, _over_, _under_, any}
 use Rattle.rules.specs.declared.Credential.{Credential}
 use Rattle.digest.specs.Hmac.{hmac}

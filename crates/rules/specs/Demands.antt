@@ -9,7 +9,7 @@ use mathlib.Core.List.{[], _++_, _∷_, List, List·Memᴰ}
 use Prim.Native.Nat.{_*_, _+_, _<_, _≤_, ℕ}
 use lib.ListN.{getD, take, length}
 use Rattle.lemmas.specs.Lists.{find, keep, part}
-use Rattle.lemmas.specs.Rows.{clear, firstRow}
+use Rattle.lemmas.specs.RowTable.{clear, firstRow}
 use Rattle.rules.specs.declared.Entry.{Entry}
 use Rattle.rules.specs.declared.Object.{Object}
 use Rattle.rules.specs.Client.{build, Built, check, frameOf}
@@ -17,19 +17,19 @@ use Rattle.digest.specs.Hmac.{hmac}
 use Rattle.rules.specs.Drive.{Drive, format, lives, partitionAt, quarter, refresh, sound}
 use Rattle.rules.specs.declared.Operation.{Operation}
 use Rattle.rules.specs.declared.Operation.the-variants.{Read}
-use Rattle.rules.specs.Frame.{covered, credentialAt, Fields, operationOf, requestAt, memory, fields, entry}
+use Rattle.rules.specs.Frame.{covered, credentialAt, Fields, operationOf, requestAt, memoryIndex, fields, entry}
 use Rattle.rules.specs.Gate.{Answer, Call, gate, granted, wholeAnswer}
 use Rattle.rules.specs.Ledger.{
   bareScope,
   clocked,
   Fed,
-  Held,
+  LedgerObject,
   Ledger,
   ledger,
   ledgerScope,
   numberOf,
   tablesOf,
-  start,
+  ledgerStart,
 }
 use Rattle.rules.specs.Operations.{headSize, resultLength, perform}
 use Rattle.rules.specs.Scope.{driveScope}
@@ -124,19 +124,19 @@ pub record Nonce : Type 0 where
   pub entry : Entry
 
 unfoldable pub nonce : Call → Nonce
-nonce c = record { memory = memory (fields (c .frame) .cred); entry = entry (fields (c .frame) .cred) (fields (c .frame) .req) }
+nonce c = record { memory = memoryIndex (fields (c .frame) .cred); entry = entry (fields (c .frame) .cred) (fields (c .frame) .req) }
 
 -- the bytes of the ledger's object that a frame names
 unfoldable pub bytesOf : Ledger → Fields → List ℕ
-bytesOf l x = Option·getD (Option·map Held.bytes
+bytesOf l x = Option·getD (Option·map LedgerObject.bytes
     (find numberOf (x .cred .object) (partitionAt l (x .cred .partition) .objects))) []
 
 -- where an object of partition p lies on a medium of M bytes
-abbrev pub from : ℕ → ℕ → Object → ℕ
-from M p a = p * quarter M + a .start
+abbrev pub extentFrom : ℕ → ℕ → Object → ℕ
+extentFrom M p a = p * quarter M + a .start
 
-abbrev pub to : ℕ → ℕ → Object → ℕ
-to M p a = p * quarter M + a .start + a .size
+abbrev pub extentTo : ℕ → ℕ → Object → ℕ
+extentTo M p a = p * quarter M + a .start + a .size
 
 -- a is an object of the drive's partition p
 abbrev pub Has : State → ℕ → Object → Type 0
@@ -147,29 +147,29 @@ pub record Agrees (M : ℕ) (s : State) (l : Ledger) : Type 0 where
   -- mark, keys, versions, last versions given, objects in the ledger's order
   pub tables : s .drive .tables ≡ tablesOf l
   -- "each object's area of the medium holds its bytes in the ledger"
-  pub bytes : (p : ℕ) (h : Held) → List·Memᴰ h (partitionAt l p .objects)
-      → part (s .medium) (from M p (h .object)) (h .object .size) ≡ h .bytes
+  pub bytes : (p : ℕ) (h : LedgerObject) → List·Memᴰ h (partitionAt l p .objects)
+      → part (s .medium) (extentFrom M p (h .object)) (h .object .size) ≡ h .bytes
   -- "each inside its own partition"
   pub inside : (p : ℕ) (a : Object) → Has s p a → (p < 4)
-      × ((p * quarter M ≤ from M p a) × (to M p a ≤ (p + 1) * quarter M))
+      × ((p * quarter M ≤ extentFrom M p a) × (extentTo M p a ≤ (p + 1) * quarter M))
   -- "their areas disjoint": two objects, of two partitions or with two numbers
   pub disjoint : (p r : ℕ) (a b : Object) → Has s p a → Has s r b → (p ≡ r → a .number ≡ b .number → ⊥)
-      → (to M p a ≤ from M r b) ⊎ (to M r b ≤ from M p a)
+      → (extentTo M p a ≤ extentFrom M r b) ⊎ (extentTo M r b ≤ extentFrom M p a)
   -- and the record is sound, so that a partition's numbers are all different
   pub sound : sound (s .drive) ≡ true
 
 -- a call's fields and operation; that it is granted after the calls before; and the ledger then
-abbrev pub asks : Call → Fields
-asks c = fields (c .frame)
+abbrev pub callFields : Call → Fields
+callFields c = fields (c .frame)
 
-abbrev pub does : Call → Operation
-does c = operationOf (asks c)
+abbrev pub callOperation : Call → Operation
+callOperation c = operationOf (callFields c)
 
 abbrev pub Granted : State → List Call → Call → Type 0
 Granted s before c = answer (after s before) c .row ≡ 0
 
-abbrev pub book : ℕ → State → Ledger → List Call → Ledger
-book M s l before = ledger M l (fed s before)
+abbrev pub ledgerAfterCalls : ℕ → State → Ledger → List Call → Ledger
+ledgerAfterCalls M s l before = ledger M l (fed s before)
 
 -- all of demand 3, of the list `calls` put to the state s, whose medium has M bytes and whose ledger starts as l
 pub record Demand3 (M : ℕ) (s : State) (l : Ledger) (calls : List Call) : Type 0 where
@@ -185,19 +185,19 @@ pub record Demand3 (M : ℕ) (s : State) (l : Ledger) (calls : List Call) : Type
   pub kept : (before later : List Call) (c : Call)
       → calls ≡ before ++ (c ∷ later)
       → Granted s before c
-      → firstRow (bounds (bareScope (ledgerScope M (clocked (c .clock) (book M s l before)) (asks c .cred))) (asks c)) ≡ 0
+      → firstRow (bounds (bareScope (ledgerScope M (clocked (c .clock) (ledgerAfterCalls M s l before)) (callFields c .cred))) (callFields c)) ≡ 0
   -- "Each granted read shows, for every byte, exactly the last granted write to it since that object's creation, or
   -- zero":
   -- after the reply's head, the bytes from A up to A + B of the ledger's object
   pub shown : (before later : List Call) (c : Call) (A B : ℕ)
       → calls ≡ before ++ (c ∷ later)
       → Granted s before c
-      → does c ≡ Read A B
-      → part (answer (after s before) c .space) headSize B ≡ part (bytesOf (book M s l before) (asks c)) A B
+      → callOperation c ≡ Read A B
+      → part (answer (after s before) c .space) headSize B ≡ part (bytesOf (ledgerAfterCalls M s l before) (callFields c)) A B
   -- "After every call the drive holds exactly the objects that the grants so far left, their areas disjoint and each
   -- inside its
   -- own partition."
-  pub agrees : (before later : List Call) → calls ≡ before ++ later → Agrees M (after s before) (book M s l before)
+  pub agrees : (before later : List Call) → calls ≡ before ++ later → Agrees M (after s before) (ledgerAfterCalls M s l before)
 
 -- for every format that returned row 0 and every list of calls
 abbrev pub AllOfDemand3 : Type 0
@@ -206,5 +206,5 @@ AllOfDemand3 =
     → format medium F master drive .row ≡ 0
     → Demand3 (length medium)
     (record { drive = format medium F master drive .drive; medium = format medium F master drive .medium })
-    (start F master drive)
+    (ledgerStart F master drive)
     calls

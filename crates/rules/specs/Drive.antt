@@ -9,7 +9,7 @@ use lib.ListN.{length, getD, replicate}
 use lib.Dec.{leb}
 use Rattle.lemmas.specs.Tests.{_over_, _is_, _isnt_}
 use Rattle.lemmas.specs.Lists.{every, pairs, keep}
-use Rattle.lemmas.specs.Rows.{Row, line, firstRow}
+use Rattle.lemmas.specs.RowTable.{Row, line, firstRow}
 use Rattle.rules.specs.declared.Object.{Object}
 use Rattle.rules.specs.declared.Entry.{Entry}
 
@@ -21,8 +21,8 @@ pub record Partition (A : Type 0) : Type 0 where
   pub objects : List A
 
 -- the partition with another version, last version given and objects
-abbrev pub changed : {A B : Type 0} → ℕ → ℕ → List B → Partition A → Partition B
-changed version last objects p = record { version = version; last = last; objects = objects }
+abbrev pub partitionWith : {A B : Type 0} → ℕ → ℕ → List B → Partition A → Partition B
+partitionWith version last objects p = record { version = version; last = last; objects = objects }
 
 -- ---- keys; none where one was never set. The partitions' keys and working keys (0 black, 1 gold) in a list each
 abbrev pub Key : Type 0
@@ -48,16 +48,16 @@ pub record Drive : Type 0 where
   pub memories : List (List Entry)
 
 -- the drive with other tables and memories
-abbrev pub renewed : Tables Object → List (List Entry) → Drive → Drive
-renewed tables memories d = record { size = d .size; tables = tables; memories = memories }
+abbrev pub driveWith : Tables Object → List (List Entry) → Drive → Drive
+driveWith tables memories d = record { size = d .size; tables = tables; memories = memories }
 
 module _ {A : Type 0} where
   -- a partition that has nothing, with version F
-  abbrev pub unused : ℕ → Partition A
-  unused F = record { version = F; last = F; objects = [] }
+  abbrev pub emptyPartition : ℕ → Partition A
+  emptyPartition F = record { version = F; last = F; objects = [] }
 
   abbrev pub partitionAt : Tables A → ℕ → Partition A
-  partitionAt t p = getD (t .partitions) p (unused 0)
+  partitionAt t p = getD (t .partitions) p (emptyPartition 0)
 
   -- the tables with another mark
   abbrev pub withHighWater : ℕ → Tables A → Tables A
@@ -66,6 +66,10 @@ module _ {A : Type 0} where
 -- ---- "Quarter q = M / 4 rounded down; partition p spans p × q up to (p + 1) × q"
 abbrev pub quarter : ℕ → ℕ
 quarter M = M / 4
+
+-- the last version that there is: the largest number of four bytes
+abbrev pub lastVersion : ℕ
+lastVersion = 4_294_967_295
 
 -- ---- "A drive record is sound when .."
 -- "M is at most 16,777,216"
@@ -101,9 +105,13 @@ sound d =
 abbrev pub newHighWater : ℕ → ℕ → ℕ
 newHighWater mark clock = max mark clock
 
+-- how far, in milliseconds, a request's time T may lie from the mark
+abbrev pub timeWindow : ℕ
+timeWindow = 5000
+
 -- "its entries with T + 5,000 at least the mark"
 abbrev pub lives : ℕ → Entry → Bool
-lives mark e = leb mark (e .time + 5000)
+lives mark e = leb mark (e .time + timeWindow)
 
 unfoldable pub sameEntry : Entry → Entry → Bool
 sameEntry a b = a .slot is b .slot && a .holder is b .holder && a .time is b .time && a .count is b .count
@@ -112,7 +120,7 @@ sameEntry a b = a .slot is b .slot && a .holder is b .holder && a .time is b .ti
 unfoldable pub refresh : ℕ → Drive → Drive
 refresh clock d =
     let mark = newHighWater (d .tables .highWater) clock in
-    renewed (withHighWater mark (d .tables)) (map (keep (lives mark)) (d .memories)) d
+    driveWith (withHighWater mark (d .tables)) (map (keep (lives mark)) (d .memories)) d
 
 -- ---- format: "No object exists, no partition or working key is set, each partition's version is F, the mark is 0"
 abbrev pub newKeys : Key → Key → Keys
@@ -125,7 +133,7 @@ newKeys master drive = record {
 }
 
 abbrev pub newTables : {A : Type 0} → ℕ → Key → Key → Tables A
-newTables F master drive = record { highWater = 0; keys = newKeys master drive; partitions = replicate 4 (unused F) }
+newTables F master drive = record { highWater = 0; keys = newKeys master drive; partitions = replicate 4 (emptyPartition F) }
 
 abbrev pub newDrive : ℕ → Tables Object → Drive
 newDrive M t = record { size = M; tables = t; memories = replicate 5 [] }

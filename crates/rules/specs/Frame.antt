@@ -131,5 +131,5 @@ operationOf x = operation (x .req)
 unfoldable pub entry : Credential → Request → Entry
 entry c r = record { slot = c .slot; holder = c .holder; time = r .time; count = r .count }
 
-unfoldable pub memory : Credential → ℕ
-memory c = cond (c .slot under 3) (c .partition) 4
+unfoldable pub memoryIndex : Credential → ℕ
+memoryIndex c = cond (c .slot under 3) (c .partition) 4

@@ -4,7 +4,7 @@ use mathlib.Core.List.{List}
 use Prim.Native.Nat.{ℕ}
 use Rattle.lemmas.specs.Tests.{_is_}
 use Rattle.lemmas.specs.Lists.{splice}
-use Rattle.lemmas.specs.Rows.{firstRow}
+use Rattle.lemmas.specs.RowTable.{firstRow}
 use Rattle.rules.specs.declared.Credential.{Credential}
 use Rattle.rules.specs.declared.Object.{Object}
 use Rattle.rules.specs.Frame.{Fields, fields, operationOf}

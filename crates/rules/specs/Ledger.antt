@@ -12,34 +12,34 @@ use Rattle.rules.specs.declared.Object.{Object}
 use Rattle.rules.specs.declared.Operation.{Operation}
 use Rattle.rules.specs.declared.Operation.the-variants.{Read, Write, Look, Raise, Create, Delete, SetKey}
 use Rattle.rules.specs.Frame.{Fields, fields, operationOf}
-use Rattle.rules.specs.Drive.{Partition, changed, Tables, withHighWater, newTables, quarter, newHighWater}
+use Rattle.rules.specs.Drive.{Partition, partitionWith, Tables, withHighWater, newTables, quarter, newHighWater}
 use Rattle.rules.specs.Scope.{Scope, withPartition, withKeys, tablesScope, withScope}
-use Rattle.rules.specs.Operations.{startOf, nextVersion, withVersion, keySet}
+use Rattle.rules.specs.Operations.{placementStart, nextVersion, withVersion, keySet}
 
 -- ---- "It holds a mark, the keys, and for each partition its version, the last version given and its objects ..,
 -- each with number, version, area and bytes"
-pub record Held : Type 0 where
+pub record LedgerObject : Type 0 where
   pub object : Object
   pub bytes : List ℕ
 
 abbrev pub Ledger : Type 0
-Ledger = Tables Held
+Ledger = Tables LedgerObject
 
-abbrev pub numberOf : Held → ℕ
+abbrev pub numberOf : LedgerObject → ℕ
 numberOf h = h .object .number
 
 -- the ledger's tables without the bytes
-abbrev pub bare : Partition Held → Partition Object
-bare p = changed (p .version) (p .last) (map Held.object (p .objects)) p
+abbrev pub bare : Partition LedgerObject → Partition Object
+bare p = partitionWith (p .version) (p .last) (map LedgerObject.object (p .objects)) p
 
 unfoldable pub tablesOf : Ledger → Tables Object
 tablesOf l = record { highWater = l .highWater; keys = l .keys; partitions = map bare (l .partitions) }
 
 -- the scope of a frame in the ledger, which has no nonce memory; and that without the bytes, as the rows judge it
-abbrev pub ledgerScope : ℕ → Ledger → Credential → Scope Held
+abbrev pub ledgerScope : ℕ → Ledger → Credential → Scope LedgerObject
 ledgerScope M l c = tablesScope (quarter M) l [] c
 
-abbrev pub bareScope : Scope Held → Scope Object
+abbrev pub bareScope : Scope LedgerObject → Scope Object
 bareScope s = record {
   quarter = s .quarter;
   highWater = s .highWater;
@@ -49,49 +49,49 @@ bareScope s = record {
 }
 
 -- ---- "Start: mark 0; master and drive key set, no other; each partition's version and last given are F; no object."
-unfoldable pub start : ℕ → List ℕ → List ℕ → Ledger
-start F master drive = newTables F (some master) (some drive)
+unfoldable pub ledgerStart : ℕ → List ℕ → List ℕ → Ledger
+ledgerStart F master drive = newTables F (some master) (some drive)
 
 -- ---- what a grant does
 -- "2: the data replaces the object's bytes from A up to A + B."
-unfoldable pub wrote : ℕ → List ℕ → Held → Held
-wrote offset new h = record { object = h .object; bytes = splice (h .bytes) offset new }
+unfoldable pub withBytesWritten : ℕ → List ℕ → LedgerObject → LedgerObject
+withBytesWritten offset new h = record { object = h .object; bytes = splice (h .bytes) offset new }
 
-unfoldable pub written : ℕ → ℕ → List ℕ → Partition Held → Partition Held
-written n offset new p = changed (p .version) (p .last) (change numberOf n (wrote offset new) (p .objects)) p
+unfoldable pub ledgerWritten : ℕ → ℕ → List ℕ → Partition LedgerObject → Partition LedgerObject
+ledgerWritten n offset new p = partitionWith (p .version) (p .last) (change numberOf n (withBytesWritten offset new) (p .objects)) p
 
 -- "4: last given rises by one; the object, or for object 0 the partition, has it as version."
-abbrev pub heldVersion : ℕ → Held → Held
-heldVersion v h = record { object = withVersion v (h .object); bytes = h .bytes }
+abbrev pub ledgerWithVersion : ℕ → LedgerObject → LedgerObject
+ledgerWithVersion v h = record { object = withVersion v (h .object); bytes = h .bytes }
 
-unfoldable pub raisedHere : ℕ → Partition Held → Partition Held
-raisedHere n p =
+unfoldable pub ledgerRaised : ℕ → Partition LedgerObject → Partition LedgerObject
+ledgerRaised n p =
     let v = nextVersion p in
-    changed (cond (n is 0) v (p .version)) v (cond (n is 0) (p .objects)
-    (change numberOf n (heldVersion v) (p .objects))) p
+    partitionWith (cond (n is 0) v (p .version)) v (cond (n is 0) (p .objects)
+    (change numberOf n (ledgerWithVersion v) (p .objects))) p
 
 -- "5: last given rises by one; object A joins, with it as version, the area that operation 5 finds among the
 -- partition's
 -- areas in the ledger, and B zero bytes."
-unfoldable pub joined : ℕ → ℕ → ℕ → Partition Held → Partition Held
-joined number size start p =
+unfoldable pub ledgerCreated : ℕ → ℕ → ℕ → Partition LedgerObject → Partition LedgerObject
+ledgerCreated number size ledgerStart p =
     let v = nextVersion p in
-    let object : Object = record { number = number; version = v; size = size; start = start } in
-    changed (p .version) v (p .objects ++ (record { object = object; bytes = replicate size 0 } ∷ [])) p
+    let object : Object = record { number = number; version = v; size = size; start = ledgerStart } in
+    partitionWith (p .version) v (p .objects ++ (record { object = object; bytes = replicate size 0 } ∷ [])) p
 
 -- "6: the object leaves."
-unfoldable pub gone : ℕ → Partition Held → Partition Held
-gone n p = changed (p .version) (p .last) (keep (λ (h : Held). numberOf h isnt n) (p .objects)) p
+unfoldable pub ledgerDeleted : ℕ → Partition LedgerObject → Partition LedgerObject
+ledgerDeleted n p = partitionWith (p .version) (p .last) (keep (λ (h : LedgerObject). numberOf h isnt n) (p .objects)) p
 
 -- "1, 3: nothing." "7: keys change by operation 7, from the ledger's signing key."
-unfoldable pub ledgerAfter : Operation → Scope Held → Fields → Scope Held
-ledgerAfter (Read offset length) s x = s
-ledgerAfter (Write offset length) s x = withPartition (written (x .cred .object) offset (x .payload) (s .partition)) s
-ledgerAfter Look s x = s
-ledgerAfter Raise s x = withPartition (raisedHere (x .cred .object) (s .partition)) s
-ledgerAfter (Create number size) s x = withPartition (joined number size (startOf (bareScope s) size) (s .partition)) s
-ledgerAfter Delete s x = withPartition (gone (x .cred .object) (s .partition)) s
-ledgerAfter (SetKey target) s x = withKeys (keySet target x (s .keys)) s
+unfoldable pub ledgerPerform : Operation → Scope LedgerObject → Fields → Scope LedgerObject
+ledgerPerform (Read offset length) s x = s
+ledgerPerform (Write offset length) s x = withPartition (ledgerWritten (x .cred .object) offset (x .payload) (s .partition)) s
+ledgerPerform Look s x = s
+ledgerPerform Raise s x = withPartition (ledgerRaised (x .cred .object) (s .partition)) s
+ledgerPerform (Create number size) s x = withPartition (ledgerCreated number size (placementStart (bareScope s) size) (s .partition)) s
+ledgerPerform Delete s x = withPartition (ledgerDeleted (x .cred .object) (s .partition)) s
+ledgerPerform (SetKey target) s x = withKeys (keySet target x (s .keys)) s
 
 -- ---- "fed .. each call's frame, clock reading and row; nothing comes from the drive record"
 pub record Fed : Type 0 where
@@ -108,7 +108,7 @@ unfoldable pub feed : ℕ → Ledger → Fed → Ledger
 feed M l c =
     let x = fields (c .frame) in
     let now = clocked (c .clock) l in
-    cond (c .row is 0) (withScope (x .cred) (ledgerAfter (operationOf x) (ledgerScope M now (x .cred)) x) now) now
+    cond (c .row is 0) (withScope (x .cred) (ledgerPerform (operationOf x) (ledgerScope M now (x .cred)) x) now) now
 
 unfoldable pub ledger : ℕ → Ledger → List Fed → Ledger
 ledger M l [] = l

@@ -16,7 +16,7 @@ use Rattle.rules.specs.declared.Entry.{Entry}
 use Rattle.rules.specs.declared.Operation.{Operation}
 use Rattle.rules.specs.declared.Operation.the-variants.{Read, Write, Look, Raise, Create, Delete, SetKey}
 use Rattle.rules.specs.Frame.{Fields, covered, entry}
-use Rattle.rules.specs.Drive.{Partition, changed, Key, Keys}
+use Rattle.rules.specs.Drive.{Partition, partitionWith, Key, Keys}
 use Rattle.rules.specs.Scope.{Scope, withPartition, withKeys}
 use Rattle.rules.specs.BestFit.{extentStep, bestFit}
 
@@ -39,18 +39,18 @@ unfoldable pub digestOf : Keys → Fields → List ℕ
 digestOf k x = hmac (credentialKey k x) (covered (x .req .level) (x .credential) (x .request) (x .payload))
 
 -- the object in its partition
-unfoldable pub named : Scope Object → Credential → Option Object
-named s c = find Object.number (c .object) (s .partition .objects)
+unfoldable pub namedObject : Scope Object → Credential → Option Object
+namedObject s c = find Object.number (c .object) (s .partition .objects)
 
 abbrev pub noObject : Object
 noObject = record { number = 0; version = 0; size = 0; start = 0 }
 
 unfoldable pub objectOf : Scope Object → Credential → Object
-objectOf s c = Option·getD (named s c) noObject
+objectOf s c = Option·getD (namedObject s c) noObject
 
 -- the present version and the size: object 0 means the partition
-unfoldable pub present : Scope Object → Credential → ℕ
-present s c = cond (c .object is 0) (s .partition .version) (objectOf s c .version)
+unfoldable pub presentVersion : Scope Object → Credential → ℕ
+presentVersion s c = cond (c .object is 0) (s .partition .version) (objectOf s c .version)
 
 abbrev pub sizeOf : Scope Object → Credential → ℕ
 sizeOf s c = cond (c .object is 0) (s .quarter) (objectOf s c .size)
@@ -63,11 +63,11 @@ unfoldable pub extentStart : Scope Object → Credential → ℕ
 extentStart s c = quarterStart s c + objectOf s c .start
 
 -- where a new area of so many bytes starts in its quarter
-unfoldable pub placeOf : Scope Object → ℕ → Option ℕ
-placeOf s size = bestFit extentStep (s .quarter) (s .partition .objects) size
+unfoldable pub placement : Scope Object → ℕ → Option ℕ
+placement s size = bestFit extentStep (s .quarter) (s .partition .objects) size
 
-unfoldable pub startOf : Scope Object → ℕ → ℕ
-startOf s size = Option·getD (placeOf s size) 0
+unfoldable pub placementStart : Scope Object → ℕ → ℕ
+placementStart s size = Option·getD (placement s size) 0
 
 -- the next version
 abbrev pub nextVersion : {A : Type 0} → Partition A → ℕ
@@ -81,19 +81,19 @@ withVersion v a = record { number = a .number; version = v; size = a .size; star
 unfoldable pub raised : ℕ → Partition Object → Partition Object
 raised n p =
     let v = nextVersion p in
-    changed (cond (n is 0) v (p .version)) v (cond (n is 0) (p .objects)
+    partitionWith (cond (n is 0) v (p .version)) v (cond (n is 0) (p .objects)
     (change Object.number n (withVersion v) (p .objects))) p
 
 -- 5. Create: "It gets the next version"
 unfoldable pub created : ℕ → ℕ → ℕ → Partition Object → Partition Object
 created number size start p =
     let v = nextVersion p in
-    changed (p .version) v (p .objects ++ (record { number = number; version = v; size = size; start = start } ∷ []))
+    partitionWith (p .version) v (p .objects ++ (record { number = number; version = v; size = size; start = start } ∷ []))
     p
 
 -- 6. Delete: "the object goes"
 unfoldable pub deleted : ℕ → Partition Object → Partition Object
-deleted n p = changed (p .version) (p .last) (keep (λ (a : Object). a .number isnt n) (p .objects)) p
+deleted n p = partitionWith (p .version) (p .last) (keep (λ (a : Object). a .number isnt n) (p .objects)) p
 
 -- 7. Set key: "New key = HMAC(key in the signing slot, request and seed)"
 unfoldable pub newKey : Keys → Fields → List ℕ
@@ -171,15 +171,15 @@ perform (Read offset length) s x m = performed (part m (extentStart s (x .cred) 
 -- 2. Write: the data replaces the object's bytes from A on; "Result empty"
 perform (Write offset length) s x m = performed [] s (splice m (extentStart s (x .cred) + offset) (x .payload))
 -- 3. Look: "size (the quarter's for object 0) and version, four bytes each"
-perform Look s x m = performed (bigEndian 4 (sizeOf s (x .cred)) ++ bigEndian 4 (present s (x .cred))) s m
+perform Look s x m = performed (bigEndian 4 (sizeOf s (x .cred)) ++ bigEndian 4 (presentVersion s (x .cred))) s m
 -- 4. Raise: "object or partition gets the next version; result that version in four bytes"
 perform Raise s x m =
     performed (bigEndian 4 (nextVersion (s .partition))) (withPartition (raised (x .cred .object) (s .partition)) s) m
 -- 5. Create: the area "is zeroed"; "result that version in four bytes"
 perform (Create number size) s x m =
     performed (bigEndian 4 (nextVersion (s .partition)))
-    (withPartition (created number size (startOf s size) (s .partition)) s)
-    (splice m (quarterStart s (x .cred) + startOf s size) (replicate size 0))
+    (withPartition (created number size (placementStart s size) (s .partition)) s)
+    (splice m (quarterStart s (x .cred) + placementStart s size) (replicate size 0))
 -- 6. Delete: "the object goes"; "Result empty"
 perform Delete s x m = performed [] (withPartition (deleted (x .cred .object) (s .partition)) s) m
 -- 7. Set key: "Result empty; lower keys keep their values"

@@ -8,14 +8,14 @@ use lib.ListN.{length}
 use lib.Dec.{leb}
 use Rattle.lemmas.specs.Tests.{_over_, _under_, _is_, _isnt_, any}
 use Rattle.lemmas.specs.Lists.{same, some?, find, missing}
-use Rattle.lemmas.specs.Rows.{Row, line}
+use Rattle.lemmas.specs.RowTable.{Row, line}
 use Rattle.rules.specs.declared.Credential.{Credential}
 use Rattle.rules.specs.declared.Request.{Request}
 use Rattle.rules.specs.declared.Object.{Object}
 use Rattle.rules.specs.Frame.{credentialMagic, requestMagic, Fields, fields, entry}
-use Rattle.rules.specs.Drive.{Drive, mostObjects, mostEntries, sound, sameEntry, refresh}
+use Rattle.rules.specs.Drive.{Drive, lastVersion, mostObjects, mostEntries, sound, timeWindow, sameEntry, refresh}
 use Rattle.rules.specs.Scope.{Scope, driveScope}
-use Rattle.rules.specs.Operations.{keyIn, digestOf, named, objectOf, present, placeOf, replyLength}
+use Rattle.rules.specs.Operations.{keyIn, digestOf, namedObject, objectOf, presentVersion, placement, replyLength}
 
 -- 1. "The drive record is not sound .., or the medium lent is not M bytes long."
 unfoldable pub row1 : Drive → List ℕ → Bool
@@ -110,7 +110,7 @@ row10 s c = expired (s .highWater) (c .expiry)
 
 -- 11. "T + 5,000 is under the mark, or T is over the mark + 5,000."
 abbrev pub untimely : ℕ → ℕ → Bool
-untimely mark T = T + 5000 under mark || T over mark + 5000
+untimely mark T = T + timeWindow under mark || T over mark + timeWindow
 
 unfoldable pub row11 : Scope Object → Request → Bool
 row11 s r = untimely (s .highWater) (r .time)
@@ -128,29 +128,29 @@ row13 c r = not (bit (r .operation - 1) (c .rights))
 
 -- 14. "The object, not 0, does not exist in the partition."
 unfoldable pub row14 : Scope Object → Credential → Bool
-row14 s c = c .object isnt 0 && missing (named s c)
+row14 s c = c .object isnt 0 && missing (namedObject s c)
 
 -- 15. "Operations 1–6: the version is not the present one."
 unfoldable pub row15 : Scope Object → Credential → Request → Bool
-row15 s c r = r .operation under 7 && c .version isnt present s c
+row15 s c r = r .operation under 7 && c .version isnt presentVersion s c
 
 -- operations 1 and 2; 4 and 5
-abbrev pub moves : Request → Bool
-moves r = r .operation is 1 || r .operation is 2
+abbrev pub isTransfer : Request → Bool
+isTransfer r = r .operation is 1 || r .operation is 2
 
-abbrev pub gives : Request → Bool
-gives r = r .operation is 4 || r .operation is 5
+abbrev pub givesVersion : Request → Bool
+givesVersion r = r .operation is 4 || r .operation is 5
 
 -- 16. "Operations 1, 2: not (first ≤ A and A + B ≤ end)."
 abbrev pub outOfRange : ℕ → ℕ → ℕ → ℕ → Bool
 outOfRange first end A B = not (leb first A && leb (A + B) end)
 
 unfoldable pub row16 : Credential → Request → Bool
-row16 c r = moves r && outOfRange (c .first) (c .end) (r .A) (r .B)
+row16 c r = isTransfer r && outOfRange (c .first) (c .end) (r .A) (r .B)
 
 -- 17. "Operations 1, 2: A + B is over the size."
 unfoldable pub row17 : Scope Object → Credential → Request → Bool
-row17 s c r = moves r && r .A + r .B over objectOf s c .size
+row17 s c r = isTransfer r && r .A + r .B over objectOf s c .size
 
 -- 18. "Create: the number is taken."
 unfoldable pub row18 : Scope Object → Request → Bool
@@ -162,11 +162,11 @@ row19 s r = r .operation is 5 && length (s .partition .objects) is mostObjects
 
 -- 20. "Create: no gap has B bytes."
 unfoldable pub row20 : Scope Object → Request → Bool
-row20 s r = r .operation is 5 && missing (placeOf s (r .B))
+row20 s r = r .operation is 5 && missing (placement s (r .B))
 
 -- 21. "Operations 4, 5: the partition has given version 4,294,967,295."
 unfoldable pub row21 : Scope Object → Request → Bool
-row21 s r = gives r && s .partition .last is 4_294_967_295
+row21 s r = givesVersion r && s .partition .last is lastVersion
 
 -- 22. "The memory holds 64 entries; here and in row 12 outlived entries have gone first."
 unfoldable pub row22 : Scope Object → Bool

@@ -9,8 +9,8 @@ use Rattle.lemmas.specs.Lists.{update}
 use Rattle.rules.specs.declared.Credential.{Credential}
 use Rattle.rules.specs.declared.Object.{Object}
 use Rattle.rules.specs.declared.Entry.{Entry}
-use Rattle.rules.specs.Frame.{memory}
-use Rattle.rules.specs.Drive.{Partition, partitionAt, Keys, Tables, Drive, renewed, quarter}
+use Rattle.rules.specs.Frame.{memoryIndex}
+use Rattle.rules.specs.Drive.{Partition, partitionAt, Keys, Tables, Drive, driveWith, quarter}
 
 -- over any kind of object: the drive's objects are Objects, the ledger's have their bytes too
 pub record Scope (A : Type 0) : Type 0 where
@@ -69,8 +69,8 @@ module _ {A : Type 0} where
 
 -- ---- the scope of a frame in a drive, and the drive with the keys, the partition and the memory of a scope
 abbrev pub driveScope : Drive → Credential → Scope Object
-driveScope d c = tablesScope (quarter (d .size)) (d .tables) (getD (d .memories) (memory c) []) c
+driveScope d c = tablesScope (quarter (d .size)) (d .tables) (getD (d .memories) (memoryIndex c) []) c
 
 abbrev pub driveWithScope : Credential → Scope Object → Drive → Drive
 driveWithScope c s d =
-    renewed (withScope c s (d .tables)) (update (memory c) (λ (old : List Entry). s .memory) (d .memories)) d
+    driveWith (withScope c s (d .tables)) (update (memoryIndex c) (λ (old : List Entry). s .memory) (d .memories)) d

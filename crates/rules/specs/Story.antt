@@ -16,11 +16,11 @@ use Rattle.rules.specs.declared.Operation.{Operation}
 use Rattle.rules.specs.declared.Operation.the-variants.{Create, Delete, Raise}
 use Rattle.rules.specs.Frame.{Fields, fields, operationOf}
 use Rattle.rules.specs.Gate.{Call}
-use Rattle.rules.specs.Ledger.{Fed, Held, Ledger, ledger, numberOf, start}
+use Rattle.rules.specs.Ledger.{Fed, LedgerObject, Ledger, ledger, numberOf, ledgerStart}
 
 -- what a call asks for
-abbrev pub asked : Fed → Fields
-asked c = fields (c .frame)
+abbrev pub fedFields : Fed → Fields
+fedFields c = fields (c .frame)
 
 -- ---- "Each partition gives versions F, F + 1, .. of its own, each once."
 -- the last version that partition p has given
@@ -28,10 +28,10 @@ abbrev pub lastOf : Ledger → ℕ → ℕ
 lastOf l p = partitionAt l p .last
 
 -- the version of object n in a partition, none where it does not exist; object 0 means the partition
-unfoldable pub versionIn : Partition Held → ℕ → Option ℕ
+unfoldable pub versionIn : Partition LedgerObject → ℕ → Option ℕ
 versionIn p n =
     cond (n is 0) (some (p .version))
-    (Option·map (λ (h : Held). h .object .version) (find numberOf n (p .objects)))
+    (Option·map (λ (h : LedgerObject). h .object .version) (find numberOf n (p .objects)))
 
 abbrev pub versionOf : Ledger → ℕ → ℕ → Option ℕ
 versionOf l p n = versionIn (partitionAt l p) n
@@ -42,8 +42,8 @@ Giving o x n = ((o ≡ Raise) × (x .cred .object ≡ n)) ⊎ ((size : ℕ) × (
 
 pub record Gives (p n : ℕ) (c : Fed) : Type 0 where
   pub granted : c .row ≡ 0
-  pub partition : asked c .cred .partition ≡ p
-  pub object : Giving (operationOf (asked c)) (asked c) n
+  pub partition : fedFields c .cred .partition ≡ p
+  pub object : Giving (operationOf (fedFields c)) (fedFields c) n
 
 -- c is granted and raises, creates or deletes it
 abbrev pub Renewing : Operation → Fields → ℕ → Type 0
@@ -51,8 +51,8 @@ Renewing o x n = Giving o x n ⊎ ((o ≡ Delete) × (x .cred .object ≡ n))
 
 pub record Renews (p n : ℕ) (c : Fed) : Type 0 where
   pub granted : c .row ≡ 0
-  pub partition : asked c .cred .partition ≡ p
-  pub object : Renewing (operationOf (asked c)) (asked c) n
+  pub partition : fedFields c .cred .partition ≡ p
+  pub object : Renewing (operationOf (fedFields c)) (fedFields c) n
 
 pub record VersionsOnce (M : ℕ) (l : Ledger) (calls : List Fed) : Type 0 where
   -- the last version given never falls
@@ -82,24 +82,24 @@ pub record VersionsOnce (M : ℕ) (l : Ledger) (calls : List Fed) : Type 0 where
 -- partition p, with version v in its credential
 pub record Uses (p n v : ℕ) (c : Fed) : Type 0 where
   pub granted : c .row ≡ 0
-  pub operation : asked c .req .operation ≤ 3
-  pub partition : asked c .cred .partition ≡ p
-  pub object : asked c .cred .object ≡ n
-  pub version : asked c .cred .version ≡ v
+  pub operation : fedFields c .req .operation ≤ 3
+  pub partition : fedFields c .cred .partition ≡ p
+  pub object : fedFields c .cred .object ≡ n
+  pub version : fedFields c .cred .version ≡ v
 
 -- c is a granted write to object n of partition p
 abbrev pub writes : ℕ → ℕ → Fed → Bool
 writes p n c =
     c .row is 0
-    && asked c .req .operation is 2
-    && asked c .cred .partition is p
-    && asked c .cred .object is n
+    && fedFields c .req .operation is 2
+    && fedFields c .cred .partition is p
+    && fedFields c .cred .object is n
 
 -- the bytes b, changed by the granted writes to object n of partition p among these calls, and by nothing else
 unfoldable pub rewritten : ℕ → ℕ → List Fed → List ℕ → List ℕ
 rewritten p n [] b = b
 rewritten p n (c ∷ cs) b =
-    rewritten p n cs (cond (writes p n c) (splice b (asked c .req .A) (asked c .payload)) b)
+    rewritten p n cs (cond (writes p n c) (splice b (fedFields c .req .A) (fedFields c .payload)) b)
 
 -- "The shape I read belongs to one log. .. A credential .. that was made for the log before, opens nothing. .. a
 -- version is raised before a log changes hands": where two granted uses c and d name one object and one version, it
@@ -126,14 +126,14 @@ pub record OneLog (M : ℕ) (l : Ledger) (calls : List Fed) : Type 0 where
       → calls ≡ before ++ (c ∷ (between ++ (d ∷ later)))
       → Uses p n v c
       → Uses p n v d
-      → bytesOf (ledger M l (before ++ (c ∷ between))) (asked d)
-      ≡ rewritten p n (c ∷ between) (bytesOf (ledger M l before) (asked c))
+      → bytesOf (ledger M l (before ++ (c ∷ between))) (fedFields d)
+      ≡ rewritten p n (c ∷ between) (bytesOf (ledger M l before) (fedFields c))
 
 -- both, for every format that returned row 0 and every list of calls
 abbrev pub OfEveryList : (ℕ → Ledger → List Fed → Type 0) → Type 0
 OfEveryList Claim =
     (medium : List ℕ) (F : ℕ) (master drive : List ℕ) (calls : List Call)
     → format medium F master drive .row ≡ 0
-    → Claim (length medium) (start F master drive)
+    → Claim (length medium) (ledgerStart F master drive)
     (fed (record { drive = format medium F master drive .drive; medium = format medium F master drive .medium })
     calls)

@@ -117,7 +117,7 @@ fn key_for(n: [u64; 76], keys: [u8; 462]) -> [u8; 32] {
     let p = asked(word, n[words::PARTITION], n[words::A]);
     let slot = asked(word, n[words::SLOT], n[words::B]);
     let mut key = [0u8; 32];
-    let j = keyring::place_of(slot, p as usize);
+    let j = keyring::key_index(slot, p as usize);
     if j < 14 {
         let start = 32 * j;
         let end = start + 32;
@@ -128,7 +128,7 @@ fn key_for(n: [u64; 76], keys: [u8; 462]) -> [u8; 32] {
 
 // Where the object of partition 0 starts that a number names; the largest number where it names none.
 fn start_of(tables: [u32; 268], number: u32) -> u64 {
-    let found = state::named(&tables[..67], number);
+    let found = state::look_up(&tables[..67], number);
     let o = found.object;
     if found.missing {
         u64::MAX

@@ -2,11 +2,11 @@
 ghost use mathlib.Core.Path.{_≡_};
 ghost use mathlib.Core.List.{List};
 ghost use Prim.Native.Nat.{ℕ};
-ghost use Rattle.digest.specs.Stream.{Keyed};
+ghost use Rattle.digest.specs.Keyed.{Keyed};
 ghost use Rattle.sealed_reply.specs.Reply.{sealPut, replyPut};
 use digest::mac;
 use digest::mac::Mac;
-use effect::Site;
+use effect::GrantContext;
 use rules::Operation;
 use rules::Request;
 
@@ -22,7 +22,7 @@ pub fn seal(reply: &mut [u8], a: Mac, n: usize)
 }
 
 // The whole reply: its head, the result, and at level 2 the digest of what `a` took, the head and the result.
-pub fn put_reply(reply: &mut [u8], medium: &[u8], a: Mac, r: Request, o: Operation, s: Site)
+pub fn put_reply(reply: &mut [u8], medium: &[u8], a: Mac, r: Request, o: Operation, s: GrantContext)
     ensures { λ _. ⌜ ((k m : List ℕ) → Keyed a k m → now (reply .exit) ≡ replyPut k m r o s (now (medium .entry)) (now (reply .entry))) ⌝ }
 {
     let n = reply::result_length(r);

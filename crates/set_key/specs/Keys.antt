@@ -8,7 +8,7 @@ use Rattle.rules.specs.Drive.{Keys}
 use Rattle.rules.specs.Operations.{keyPut}
 use Rattle.rules.specs.declared.Operation.{Operation}
 use Rattle.rules.specs.declared.Operation.the-variants.{Read, Write, Look, Raise, Create, Delete, SetKey}
-use Rattle.keyring.specs.Keys.{isSet, placeOf, targetOf, keyPutAt}
+use Rattle.keyring.specs.Keys.{isSet, keyIndex, targetIndex, keyStored}
 
 -- "New key = HMAC(key in the signing slot, request and seed)"
 abbrev pub keysPut : Operation → ℕ → ℕ → List ℕ → List ℕ → Keys → Keys
@@ -29,5 +29,5 @@ keysAfter Raise slot p signed ks = ks
 keysAfter (Create number size) slot p signed ks = ks
 keysAfter Delete slot p signed ks = ks
 keysAfter (SetKey target) slot p signed ks =
-    let j = placeOf slot p in
-    cond (isSet ks j) (keyPutAt (targetOf slot p target) (hmac (part ks (32 * j) 32) signed) ks) ks
+    let j = keyIndex slot p in
+    cond (isSet ks j) (keyStored (targetIndex slot p target) (hmac (part ks (32 * j) 32) signed) ks) ks

@@ -1,3 +1,3 @@
 -- The keys after an operation, and the law between the rules' keys and their bytes.
 pub mod Keys
-pub mod Laws
+pub mod KeysAfter

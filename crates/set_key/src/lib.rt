@@ -12,10 +12,10 @@ pub fn apply(keys: &mut [u8], o: Operation, slot: u8, p: usize, signed: &[u8])
     let Operation::SetKey { target } = o else {
         return;
     };
-    let j = keyring::place_of(slot, p);
+    let j = keyring::key_index(slot, p);
     if !keyring::is_set(&*keys, j) {
         return;
     }
     let new = mac::of(&keys[32 * j..32 * j + 32], signed);
-    keyring::put_key(keys, slot, p, target as usize, &new);
+    keyring::store_key(keys, slot, p, target as usize, &new);
 }

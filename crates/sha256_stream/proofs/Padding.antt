@@ -12,8 +12,8 @@ use Rattle.lemmas.specs.Fill.{sets-four}
 use Rattle.sha256_block.specs.declared.State.{State}
 use Rattle.sha256_stream.specs.declared.Hash.{Hash}
 use Rattle.sha256_block.specs.Sha256.{compress, blocks, padding, pad, H₀, bytes, sha256}
-use Rattle.sha256_stream.specs.Stream.{Absorbed}
-use Rattle.sha256_stream.proofs.Stream.{blocks-on}
+use Rattle.sha256_stream.specs.Absorbed.{Absorbed}
+use Rattle.sha256_stream.proofs.Absorbing.{blocks-on}
 
 -- ---- the padding, by cases
 

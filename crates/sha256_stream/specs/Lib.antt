@@ -1,2 +1,2 @@
 -- What a stream holds.
-pub mod Stream
+pub mod Absorbed

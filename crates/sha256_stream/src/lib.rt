@@ -7,7 +7,7 @@ ghost use lib.ListN.{length, drop, take, replicate};
 ghost use lib.Seq.{paste};
 ghost use Rattle.lemmas.specs.BigEndian.{bigEndian};
 ghost use Rattle.sha256_block.specs.Sha256.{bytes, sha256};
-ghost use Rattle.sha256_stream.specs.Stream.{Absorbed};
+ghost use Rattle.sha256_stream.specs.Absorbed.{Absorbed};
 use sha256_block::State;
 use sha256_block::blocks;
 use sha256_block::compress;

@@ -1,3 +1,3 @@
 -- What the two exported calls answer.
-pub mod Told
-pub mod Laws
+pub mod Exported
+pub mod CheckedLaws

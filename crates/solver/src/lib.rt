@@ -1,6 +1,6 @@
 // The frame builder and the reply check for the cutting solver, which is written in C. include/sievelast.h declares them.
 ghost use mathlib.Core.Path.{_≡_};
-ghost use Rattle.solver.specs.Told.{builtOf, spaceAfter, checkedOf};
+ghost use Rattle.solver.specs.Exported.{builtOf, spaceAfter, checkedOf};
 
 // The builder's answer: row 0 and the frame's length, or the row and length 0.
 #[repr(C)]

@@ -8,24 +8,24 @@ use native.Mathlib.Omega.{arith}
 use lib.Dec.{leb}
 use lib.ListN.{getD}
 use borrow.Author.Tests.{le-leb, lt-leb}
-use Rattle.state.specs.Table.{from}
+use Rattle.state.specs.Table.{range}
 use Rattle.soundness.specs.Spans.{each}
 
 and-true : (a : Bool) → (a && true) ≡ a
 and-true true = refl
 and-true false = refl
 
-place-at : (a n k : ℕ) → k < n → getD (from a n) k 0 ≡ a + k
+place-at : (a n k : ℕ) → k < n → getD (range a n) k 0 ≡ a + k
 place-at a zero k h = absurd (not-suc-le-zero h)
 place-at a (suc n) zero h = omega arith
 place-at a (suc n) (suc k) h = let e : (a + 1) + k ≡ a + suc k = omega arith in place-at (a + 1) n k (le-of-suc-le-suc h) ∙ e
 
-pub place-is : (k : ℕ) → k < 16 → getD (from 0 16) k 0 ≡ k
+pub place-is : (k : ℕ) → k < 16 → getD (range 0 16) k 0 ≡ k
 place-is k h = let e : 0 + k ≡ k = omega arith in place-at 0 16 k h ∙ e
 
 module _ (t : ℕ → Bool) (n : ℕ) where
   abbrev pub passed : ℕ → Bool
-  passed k = leb n (getD (from 0 16) k 0) || t k
+  passed k = leb n (getD (range 0 16) k 0) || t k
 
   one : (k : ℕ) (b : Bool) → k < 16 → leb n k ≡ b → passed k ≡ (b || t k)
   one k b h e = ap (λ (x : ℕ). leb n x || t k) (place-is k h) ∙ ap (λ (c : Bool). c || t k) e

@@ -18,8 +18,8 @@ use Rattle.rules.specs.declared.Object.{Object}
 use Rattle.rules.specs.Drive.{mostObjects, soundObject, soundPartition, apart}
 use Rattle.rules.specs.Operations.{noObject}
 use Rattle.state.specs.Padded.{padded, padded-is, padded-length}
-use Rattle.state.specs.Table.{tableSize, objectAt, from, places, viewed}
-use Rattle.state.specs.Places.{from-length, from-at, places-length}
+use Rattle.state.specs.Table.{tableSize, objectAt, range, places, partitionView}
+use Rattle.state.specs.Places.{range-length, range-at, places-length}
 use Rattle.soundness.specs.Spans.{endOf, narrow, narrowAt, endsOf, soundAt, clearAt, each}
 use Rattle.soundness.proofs.Sound.{and-assoc, each-every, sound-each}
 use Rattle.soundness.proofs.Clear.{clear, clear-each, clear-pairs}
@@ -28,8 +28,8 @@ use Rattle.soundness.proofs.Clear.{clear, clear-each, clear-pairs}
 abbrev pub column : List ℕ → ℕ → ℕ → List ℕ
 column t a n = take n (drop a t)
 
-column-is : (t : List ℕ) (a n : ℕ) → a + n ≤ length t → column t a n ≡ map (λ (i : ℕ). getD t (a + i) 0) (from 0 n)
-column-is t a n h = ext-getD 0 (column t a n) (map f (from 0 n)) (long ∙ sym (from-length f 0 n)) same
+column-is : (t : List ℕ) (a n : ℕ) → a + n ≤ length t → column t a n ≡ map (λ (i : ℕ). getD t (a + i) 0) (range 0 n)
+column-is t a n h = ext-getD 0 (column t a n) (map f (range 0 n)) (long ∙ sym (range-length f 0 n)) same
   where
     f : ℕ → ℕ
     f i = getD t (a + i) 0
@@ -37,11 +37,11 @@ column-is t a n h = ext-getD 0 (column t a n) (map f (from 0 n)) (long ∙ sym (
     long : length (column t a n) ≡ n
     long = let d = length-drop a t in let k = length-take n (drop a t) in omega arith
 
-    same : (i : ℕ) → i < length (column t a n) → getD (column t a n) i 0 ≡ getD (map f (from 0 n)) i 0
+    same : (i : ℕ) → i < length (column t a n) → getD (column t a n) i 0 ≡ getD (map f (range 0 n)) i 0
     same i m =
         let z : 0 + i ≡ i = omega arith in
         let k : i < n = omega (arith, long) in
-        getD-take n (drop a t) i 0 k ∙ getD-drop a t i 0 ∙ sym (from-at f 0 n i 0 k ∙ ap f z)
+        getD-take n (drop a t) i 0 k ∙ getD-drop a t i 0 ∙ sym (range-at f 0 n i 0 k ∙ ap f z)
 
 module _ (t : List ℕ) (e : length t ≡ tableSize) where
   numbers-are : column t 3 16 ≡ map Object.number (places t)
@@ -100,9 +100,9 @@ module _ (q : ℕ) (t : List ℕ) where
   by-count (yes k) = rw (long, padded-is mostObjects noObject count (places t) k)
   by-count (no k) = rw (long, lt-leb count mostObjects (omega arith))
 
-  sound-viewed : soundPartition q (viewed t)
+  sound-viewed : soundPartition q (partitionView t)
       ≡ (leb count mostObjects && every (soundObject q last) held && pairs apart held)
-  unfolding viewed soundPartition
+  unfolding partitionView soundPartition
   sound-viewed = by-count (decLe count mostObjects)
 
 -- ---- what the tests of the columns find
@@ -113,7 +113,7 @@ module _ (q : ℕ) (small : q < 2 ^ 32) (t : List ℕ) (e : length t ≡ tableSi
       → (leb (getD t 2 0) 16
       && each (soundAt q (getD t 1 0) (column t 3 16) (column t 51 16) ends (column t 19 16)) n
       && each (clearAt (column t 3 16) (column t 51 16) ends) n)
-      ≡ (length t is tableSize && soundPartition q (viewed t))
+      ≡ (length t is tableSize && soundPartition q (partitionView t))
   table-sound ends f w n m =
       let l = places t in
       let long : length l ≡ 16 = places-length t in

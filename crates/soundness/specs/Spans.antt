@@ -9,7 +9,7 @@ use lib.Dec.{leb}
 use lib.ListN.{getD}
 use Rattle.lemmas.specs.Tests.{_is_, _under_}
 use Rattle.rules.specs.declared.Object.{Object}
-use Rattle.state.specs.Table.{from}
+use Rattle.state.specs.Table.{range}
 
 -- an extent's end, by a sum that wraps
 abbrev pub endOf : Object → ℕ
@@ -29,7 +29,7 @@ endAt starts sizes i = (getD starts i 0 + getD sizes i 0) % 2 ^ 32
 
 -- the ends of all sixteen
 unfoldable pub endsOf : List ℕ → List ℕ → List ℕ
-endsOf starts sizes = map (endAt starts sizes) (from 0 16)
+endsOf starts sizes = map (endAt starts sizes) (range 0 16)
 
 -- an object's soundness by the end of its extent; of a narrow one that is the rules' `soundObject` (sound-each in
 -- proofs/Sound.antt)

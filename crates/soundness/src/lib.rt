@@ -5,9 +5,9 @@ ghost use Prim.Native.Nat.{_≤_, _<_, _+_, _%_, _^_};
 ghost use lib.ListN.{length, getD};
 ghost use Rattle.lemmas.specs.Tests.{_is_};
 ghost use Rattle.rules.specs.Drive.{mostObjects, soundPartition};
-ghost use Rattle.state.specs.Table.{tableSize, viewed};
+ghost use Rattle.state.specs.Table.{tableSize, partitionView};
 ghost use Rattle.soundness.specs.Spans.{endsOf, narrowAt, soundSpan, soundAt, clearAt, each};
-use lemmas::within;
+use lemmas::smaller;
 use std::num::wrapping_add_u32;
 
 // A number from 1, a nonempty extent inside the quarter, a version not over the last given. An end that wrapped does not
@@ -101,13 +101,13 @@ fn all_clear(numbers: &[u32], starts: &[u32], ends: &[u32], n: usize) -> bool
 
 // Whether a list is a table, and its partition is sound.
 pub fn sound_table(table: &[u32], quarter: u32) -> bool
-    ensures { λ r. ⌜ (r ≡ (length (now (table .entry)) is tableSize && soundPartition quarter (viewed (now (table .entry)))))
+    ensures { λ r. ⌜ (r ≡ (length (now (table .entry)) is tableSize && soundPartition quarter (partitionView (now (table .entry)))))
         × (r ≡ true → getD (now (table .entry)) 2 0 ≤ mostObjects) ⌝ }
 {
     if table.len() != 67 {
         return false;
     }
-    let n = within(table[2] as usize, 16);
+    let n = smaller(table[2] as usize, 16);
     let ends = ends_of(&table[51..67], &table[35..51]);
     let free = all_clear(&table[3..19], &table[51..67], &ends, n);
     (table[2] <= 16)

@@ -9,7 +9,7 @@ use Rattle.lemmas.specs.Lists.{keep, change}
 use Rattle.rules.specs.declared.Object.{Object}
 use Rattle.rules.specs.Drive.{mostObjects}
 use Rattle.rules.specs.Operations.{withVersion}
-use Rattle.state.specs.Table.{tableSize, places, heldIn}
+use Rattle.state.specs.Table.{tableSize, places, objectsIn}
 
 -- what a table says: its version, the last version given, its count, and what stands at all sixteen places
 pub record Content : Type 0 where
@@ -22,7 +22,7 @@ abbrev pub contentOf : List ℕ → Content
 contentOf t = record { version = getD t 0 0; last = getD t 1 0; count = getD t 2 0; objects = places t }
 
 -- u is as long as t and says c
-pub record Became (t u : List ℕ) (c : Content) : Type 0 where
+pub record HasContent (t u : List ℕ) (c : Content) : Type 0 where
   pub long : length u ≡ length t
   pub version : getD u 0 0 ≡ c .version
   pub last : getD u 1 0 ≡ c .last
@@ -30,47 +30,47 @@ pub record Became (t u : List ℕ) (c : Content) : Type 0 where
   pub objects : places u ≡ c .objects
 
 -- a table now says c; a list that is no table is as it was
-pub record Changed (t u : List ℕ) (c : Content) : Type 0 where
-  pub table : length t ≡ tableSize → Became t u c
+pub record ChangedTo (t u : List ℕ) (c : Content) : Type 0 where
+  pub table : length t ≡ tableSize → HasContent t u c
   pub other : (length t ≡ tableSize → ⊥) → u ≡ t
 
 -- the objects f at the first places; what stands behind them stays
-abbrev pub fronted : List Object → List ℕ → List Object
-fronted f t = f ++ drop (length f) (places t)
+abbrev pub withFront : List Object → List ℕ → List Object
+withFront f t = f ++ drop (length f) (places t)
 
 -- the table with the objects f at the first places, and with o at place i; all else as it was
-abbrev pub frontedIn : List Object → List ℕ → Content
-frontedIn f t = record { version = getD t 0 0; last = getD t 1 0; count = getD t 2 0; objects = fronted f t }
+abbrev pub contentWithFront : List Object → List ℕ → Content
+contentWithFront f t = record { version = getD t 0 0; last = getD t 1 0; count = getD t 2 0; objects = withFront f t }
 
-abbrev pub storedIn : ℕ → Object → List ℕ → Content
-storedIn i o t = record { version = getD t 0 0; last = getD t 1 0; count = getD t 2 0; objects = set (places t) i o }
+abbrev pub contentWithObject : ℕ → Object → List ℕ → Content
+contentWithObject i o t = record { version = getD t 0 0; last = getD t 1 0; count = getD t 2 0; objects = set (places t) i o }
 
 -- 4. "object or partition gets the next version", which is v; object 0 means the partition
-unfoldable pub raisedIn : ℕ → ℕ → List ℕ → Content
-raisedIn number v t = record {
+unfoldable pub raisedContent : ℕ → ℕ → List ℕ → Content
+raisedContent number v t = record {
   version = cond (number is 0) v (getD t 0 0);
   last = v;
   count = getD t 2 0;
-  objects = cond (number is 0) (places t) (fronted (change Object.number number (withVersion v) (heldIn t)) t);
+  objects = cond (number is 0) (places t) (withFront (change Object.number number (withVersion v) (objectsIn t)) t);
 }
 
 -- 5. the object joins behind those that are held, where there is room; its version is the last given
-unfoldable pub joinedIn : Object → List ℕ → Content
-joinedIn o t = record {
+unfoldable pub createdContent : Object → List ℕ → Content
+createdContent o t = record {
   version = getD t 0 0;
   last = o .version;
   count = cond (getD t 2 0 under mostObjects) (getD t 2 0 + 1) (getD t 2 0);
-  objects = cond (getD t 2 0 under mostObjects) (fronted (heldIn t ++ (o ∷ [])) t) (places t);
+  objects = cond (getD t 2 0 under mostObjects) (withFront (objectsIn t ++ (o ∷ [])) t) (places t);
 }
 
 -- 6. "the object goes": those of other numbers, in their order
-abbrev pub others : ℕ → List ℕ → List Object
-others number t = keep (λ (a : Object). a .number isnt number) (heldIn t)
+abbrev pub otherObjects : ℕ → List ℕ → List Object
+otherObjects number t = keep (λ (a : Object). a .number isnt number) (objectsIn t)
 
-unfoldable pub removedIn : ℕ → List ℕ → Content
-removedIn number t = record {
+unfoldable pub deletedContent : ℕ → List ℕ → Content
+deletedContent number t = record {
   version = getD t 0 0;
   last = getD t 1 0;
-  count = length (others number t);
-  objects = fronted (others number t) t;
+  count = length (otherObjects number t);
+  objects = withFront (otherObjects number t) t;
 }

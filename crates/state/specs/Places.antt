@@ -16,45 +16,45 @@ use Rattle.rules.specs.declared.Object.{Object}
 use Rattle.rules.specs.Drive.{mostObjects}
 use Rattle.rules.specs.Operations.{noObject}
 use Rattle.state.specs.Padded.{padded-is}
-use Rattle.state.specs.Table.{tableSize, objectAt, from, places, countIn, heldIn, partitionIn, viewed, targetIn}
+use Rattle.state.specs.Table.{tableSize, objectAt, range, places, countIn, objectsIn, partitionIn, partitionView, lookupIn}
 
 -- ---- numbers in a row, mapped
-pub from-length : {A : Type 0} (f : ℕ → A) (a n : ℕ) → length (map f (from a n)) ≡ n
-from-length f a zero = refl
-from-length f a (suc n) = ap suc (from-length f (a + 1) n)
+pub range-length : {A : Type 0} (f : ℕ → A) (a n : ℕ) → length (map f (range a n)) ≡ n
+range-length f a zero = refl
+range-length f a (suc n) = ap suc (range-length f (a + 1) n)
 
-pub from-at : {A : Type 0} (f : ℕ → A) (a n k : ℕ) (d : A) → k < n → getD (map f (from a n)) k d ≡ f (a + k)
-from-at f a zero k d h = absurd (not-suc-le-zero h)
-from-at f a (suc n) zero d h = let e : a ≡ a + 0 = omega arith in ap f e
-from-at f a (suc n) (suc k) d h =
-    let e : (a + 1) + k ≡ a + suc k = omega arith in from-at f (a + 1) n k d (le-of-suc-le-suc h) ∙ ap f e
+pub range-at : {A : Type 0} (f : ℕ → A) (a n k : ℕ) (d : A) → k < n → getD (map f (range a n)) k d ≡ f (a + k)
+range-at f a zero k d h = absurd (not-suc-le-zero h)
+range-at f a (suc n) zero d h = let e : a ≡ a + 0 = omega arith in ap f e
+range-at f a (suc n) (suc k) d h =
+    let e : (a + 1) + k ≡ a + suc k = omega arith in range-at f (a + 1) n k d (le-of-suc-le-suc h) ∙ ap f e
 
 -- ---- the sixteen places
 pub places-length : (t : List ℕ) → length (places t) ≡ 16
 unfolding places
-places-length t = from-length (objectAt t) 0 16
+places-length t = range-length (objectAt t) 0 16
 
 pub places-at : (t : List ℕ) (i : ℕ) → i < 16 → getD (places t) i noObject ≡ objectAt t i
 unfolding places
-places-at t i h = let e : 0 + i ≡ i = omega arith in from-at (objectAt t) 0 16 i noObject h ∙ ap (objectAt t) e
+places-at t i h = let e : 0 + i ≡ i = omega arith in range-at (objectAt t) 0 16 i noObject h ∙ ap (objectAt t) e
 
 -- ---- what is held
-pub held-length : (t : List ℕ) → length (heldIn t) ≡ min (countIn t) 16
-unfolding heldIn
-held-length t = length-take (countIn t) (places t) ∙ ap (min (countIn t)) (places-length t)
+pub objects-length : (t : List ℕ) → length (objectsIn t) ≡ min (countIn t) 16
+unfolding objectsIn
+objects-length t = length-take (countIn t) (places t) ∙ ap (min (countIn t)) (places-length t)
 
 -- a list that holds something is a table
-pub held-table : (t : List ℕ) → 0 < length (heldIn t) → length t ≡ tableSize
-held-table t h = go (length t is tableSize) refl (omega (arith, held-length t))
+pub objects-table : (t : List ℕ) → 0 < length (objectsIn t) → length t ≡ tableSize
+objects-table t h = go (length t is tableSize) refl (omega (arith, objects-length t))
   where
     go : (b : Bool) → (length t is tableSize) ≡ b → 0 < cond b (getD t 2 0) 0 → length t ≡ tableSize
     go true e m = eqb-true (length t) tableSize e
     go false e m = absurd (not-suc-le-zero m)
 
-pub held-at : (t : List ℕ) (i : ℕ) → i < length (heldIn t) → getD (heldIn t) i noObject ≡ objectAt t i
-unfolding heldIn
-held-at t i h =
-    let n = held-length t in
+pub objects-at : (t : List ℕ) (i : ℕ) → i < length (objectsIn t) → getD (objectsIn t) i noObject ≡ objectAt t i
+unfolding objectsIn
+objects-at t i h =
+    let n = objects-length t in
     getD-take (countIn t) (places t) i noObject (omega arith) ∙ places-at t i (omega arith)
 
 -- a table's count is the third of its numbers
@@ -62,38 +62,38 @@ pub count-is : (t : List ℕ) → length t ≡ tableSize → countIn t ≡ getD 
 count-is t e = rw (eq-eqb (length t) tableSize e) refl
 
 -- a table whose count is within its places
-pub viewed-is : (t : List ℕ) → length t ≡ tableSize → getD t 2 0 ≤ mostObjects → viewed t ≡ partitionIn t
-unfolding viewed partitionIn heldIn
-viewed-is t e h = rw (padded-is mostObjects noObject (getD t 2 0) (places t) h, count-is t e) refl
+pub view-is : (t : List ℕ) → length t ≡ tableSize → getD t 2 0 ≤ mostObjects → partitionView t ≡ partitionIn t
+unfolding partitionView partitionIn objectsIn
+view-is t e h = rw (padded-is mostObjects noObject (getD t 2 0) (places t) h, count-is t e) refl
 
 -- ---- a search by number that stands at place i
-module _ (t : List ℕ) (number i : ℕ) (more : i < length (heldIn t))
-    (none-yet : find Object.number number (take i (heldIn t)) ≡ none) where
-  number-at : getD (heldIn t) i noObject .number ≡ getD t (3 + i) 0
+module _ (t : List ℕ) (number i : ℕ) (more : i < length (objectsIn t))
+    (none-yet : find Object.number number (take i (objectsIn t)) ≡ none) where
+  number-at : getD (objectsIn t) i noObject .number ≡ getD t (3 + i) 0
   unfolding objectAt
-  number-at = ap Object.number (held-at t i more)
+  number-at = ap Object.number (objects-at t i more)
 
-  pub named-here : getD t (3 + i) 0 ≡ number
-      → targetIn (heldIn t) number ≡ record { missing = false; object = getD (heldIn t) i noObject }
-  unfolding targetIn missing
-  named-here e = rw found
+  pub lookup-here : getD t (3 + i) 0 ≡ number
+      → lookupIn (objectsIn t) number ≡ record { missing = false; object = getD (objectsIn t) i noObject }
+  unfolding lookupIn missing
+  lookup-here e = rw found
     where
-      found : find Object.number number (heldIn t) ≡ some (getD (heldIn t) i noObject)
+      found : find Object.number number (objectsIn t) ≡ some (getD (objectsIn t) i noObject)
       found =
-          ap (find Object.number number) (sym (take-length (heldIn t)))
-          ∙ find-hit Object.number number (heldIn t) i noObject (length (heldIn t)) more more none-yet
-          (eq-eqb (getD (heldIn t) i noObject .number) number (number-at ∙ e))
+          ap (find Object.number number) (sym (take-length (objectsIn t)))
+          ∙ find-hit Object.number number (objectsIn t) i noObject (length (objectsIn t)) more more none-yet
+          (eq-eqb (getD (objectsIn t) i noObject .number) number (number-at ∙ e))
 
-  pub named-later : (getD t (3 + i) 0 ≡ number → ⊥) → find Object.number number (take (i + 1) (heldIn t)) ≡ none
-  named-later n =
-      find-pass Object.number number (heldIn t) i noObject more none-yet
-      (ne-eqb (getD (heldIn t) i noObject .number) number (λ e. n (sym number-at ∙ e)))
+  pub lookup-later : (getD t (3 + i) 0 ≡ number → ⊥) → find Object.number number (take (i + 1) (objectsIn t)) ≡ none
+  lookup-later n =
+      find-pass Object.number number (objectsIn t) i noObject more none-yet
+      (ne-eqb (getD (objectsIn t) i noObject .number) number (λ e. n (sym number-at ∙ e)))
 
-pub named-nowhere : (t : List ℕ) (number i : ℕ) → i ≡ length (heldIn t)
-    → find Object.number number (take i (heldIn t)) ≡ none
-    → targetIn (heldIn t) number ≡ record { missing = true; object = noObject }
-unfolding targetIn missing
-named-nowhere t number i e f =
-    let g : find Object.number number (heldIn t) ≡ none
-    = ap (find Object.number number) (sym (take-all i (heldIn t) (omega arith))) ∙ f in
+pub lookup-nowhere : (t : List ℕ) (number i : ℕ) → i ≡ length (objectsIn t)
+    → find Object.number number (take i (objectsIn t)) ≡ none
+    → lookupIn (objectsIn t) number ≡ record { missing = true; object = noObject }
+unfolding lookupIn missing
+lookup-nowhere t number i e f =
+    let g : find Object.number number (objectsIn t) ≡ none
+    = ap (find Object.number number) (sym (take-all i (objectsIn t) (omega arith))) ∙ f in
     rw g

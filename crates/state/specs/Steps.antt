@@ -14,24 +14,24 @@ use Rattle.lemmas.specs.ListLaws.{length-keep}
 use Rattle.rules.specs.declared.Object.{Object}
 use Rattle.rules.specs.Drive.{mostObjects}
 use Rattle.rules.specs.Operations.{noObject, withVersion}
-use Rattle.state.specs.Table.{tableSize, objectAt, places, countIn, heldIn}
-use Rattle.state.specs.Places.{places-length, places-at, held-length, held-at, count-is}
+use Rattle.state.specs.Table.{tableSize, objectAt, places, countIn, objectsIn}
+use Rattle.state.specs.Places.{places-length, places-at, objects-length, objects-at, count-is}
 use Rattle.state.specs.Changes.{
   Content,
   contentOf,
-  Became,
-  Changed,
-  fronted,
-  frontedIn,
-  storedIn,
-  raisedIn,
-  joinedIn,
-  others,
-  removedIn,
+  HasContent,
+  ChangedTo,
+  withFront,
+  contentWithFront,
+  contentWithObject,
+  raisedContent,
+  createdContent,
+  otherObjects,
+  deletedContent,
 }
 use Rattle.state.specs.Stores.{
   places-head,
-  held-head,
+  objects-head,
   places-version,
   stored,
   stored-length,
@@ -50,35 +50,35 @@ use Rattle.state.specs.Fronts.{
 }
 
 -- nothing has changed
-pub became-same : (t : List ℕ) → Became t t (contentOf t)
-became-same t = record { long = refl; version = refl; last = refl; count = refl; objects = refl }
+pub content-same : (t : List ℕ) → HasContent t t (contentOf t)
+content-same t = record { long = refl; version = refl; last = refl; count = refl; objects = refl }
 
-pub changed-same : (t : List ℕ) → Changed t t (contentOf t)
-changed-same t = record { table = λ l. became-same t; other = λ n. refl }
+pub changed-same : (t : List ℕ) → ChangedTo t t (contentOf t)
+changed-same t = record { table = λ l. content-same t; other = λ n. refl }
 
 -- a list that is no table, and one that is
-pub unchanged : (t : List ℕ) (c : Content) → (length t ≡ tableSize → ⊥) → Changed t t c
+pub unchanged : (t : List ℕ) (c : Content) → (length t ≡ tableSize → ⊥) → ChangedTo t t c
 unchanged t c n = record { table = λ l. absurd (n l); other = λ m. refl }
 
-pub changed-table : (t u : List ℕ) (c : Content) → length t ≡ tableSize → Became t u c → Changed t u c
+pub changed-table : (t u : List ℕ) (c : Content) → length t ≡ tableSize → HasContent t u c → ChangedTo t u c
 changed-table t u c l b = record { table = λ m. b; other = λ n. absurd (n l) }
 
 -- as many objects are held where the count is the same
-pub held-as-many : (t u : List ℕ) (c : Content) → Became t u c → c .count ≡ getD t 2 0
-    → length (heldIn u) ≡ length (heldIn t)
-held-as-many t u c b e =
+pub objects-as-many : (t u : List ℕ) (c : Content) → HasContent t u c → c .count ≡ getD t 2 0
+    → length (objectsIn u) ≡ length (objectsIn t)
+objects-as-many t u c b e =
     let n : countIn u ≡ countIn t = rw (b .long, b .count, e) refl in
-    held-length u ∙ ap (λ (x : ℕ). min x 16) n ∙ sym (held-length t)
+    objects-length u ∙ ap (λ (x : ℕ). min x 16) n ∙ sym (objects-length t)
 
 -- what is held stands at the first places
-pub held-fronted : (t : List ℕ) → places t ≡ fronted (heldIn t) t
-unfolding heldIn
-held-fronted t = front-taken (countIn t) (places t)
+pub objects-front : (t : List ℕ) → places t ≡ withFront (objectsIn t) t
+unfolding objectsIn
+objects-front t = front-taken (countIn t) (places t)
 
 -- an object stored at place j
-pub became-stored : (t : List ℕ) (j : ℕ) (o : Object) → length t ≡ tableSize → j < 16
-    → Became t (stored t j o) (storedIn j o t)
-became-stored t j o l h = record {
+pub content-stored : (t : List ℕ) (j : ℕ) (o : Object) → length t ≡ tableSize → j < 16
+    → HasContent t (stored t j o) (contentWithObject j o t)
+content-stored t j o l h = record {
   long = stored-length t j o;
   version = stored-head t j o 0 (omega arith);
   last = stored-head t j o 1 (omega arith);
@@ -87,37 +87,37 @@ became-stored t j o l h = record {
 }
 
 -- ---- a loop that stands at object i of t, behind the objects f
-module _ (t u : List ℕ) (f : List Object) (b : Became t u (frontedIn f t)) (i : ℕ) (low : length f ≤ i)
-    (more : i < length (heldIn t)) where
+module _ (t u : List ℕ) (f : List Object) (b : HasContent t u (contentWithFront f t)) (i : ℕ) (low : length f ≤ i)
+    (more : i < length (objectsIn t)) where
   -- it meets the object i that t held
-  pub still : objectAt u i ≡ getD (heldIn t) i noObject
+  pub still : objectAt u i ≡ getD (objectsIn t) i noObject
   still =
-      let n = held-length t in
+      let n = objects-length t in
       let m : i < 16 = omega arith in
       sym (places-at u i m) ∙ ap (λ (l : List Object). getD l i noObject) (b .objects)
-      ∙ front-behind f (places t) i noObject low ∙ places-at t i m ∙ sym (held-at t i more)
+      ∙ front-behind f (places t) i noObject low ∙ places-at t i m ∙ sym (objects-at t i more)
 
-  pub held-still : getD (heldIn u) i noObject ≡ getD (heldIn t) i noObject
-  held-still = held-at u i (omega (arith, held-as-many t u (frontedIn f t) b refl)) ∙ still
+  pub objects-still : getD (objectsIn u) i noObject ≡ getD (objectsIn t) i noObject
+  objects-still = objects-at u i (omega (arith, objects-as-many t u (contentWithFront f t) b refl)) ∙ still
 
 -- ---- operation 4: the first i are renewed, and now one more is looked at
-module _ (t u : List ℕ) (number v i : ℕ) (l : length t ≡ tableSize) (more : i < length (heldIn t))
-    (b : Became t u (frontedIn (change Object.number number (withVersion v) (take i (heldIn t))) t)) where
+module _ (t u : List ℕ) (number v i : ℕ) (l : length t ≡ tableSize) (more : i < length (objectsIn t))
+    (b : HasContent t u (contentWithFront (change Object.number number (withVersion v) (take i (objectsIn t))) t)) where
   abbrev renewing : List Object
-  renewing = change Object.number number (withVersion v) (take i (heldIn t))
+  renewing = change Object.number number (withVersion v) (take i (objectsIn t))
 
   abbrev renewing-next : List Object
-  renewing-next = change Object.number number (withVersion v) (take (i + 1) (heldIn t))
+  renewing-next = change Object.number number (withVersion v) (take (i + 1) (objectsIn t))
 
   abbrev it : Object
-  it = getD (heldIn t) i noObject
+  it = getD (objectsIn t) i noObject
 
   room : (length renewing ≡ i) × (i < 16) × (i < length (places t))
   room =
-      let n = held-length t in
+      let n = objects-length t in
       let m = places-length t in (
-        change-length Object.number number (withVersion v) (take i (heldIn t))
-            ∙ length-take-le i (heldIn t) (omega arith),
+        change-length Object.number number (withVersion v) (take i (objectsIn t))
+            ∙ length-take-le i (objectsIn t) (omega arith),
         omega arith,
         omega arith,
       )
@@ -129,7 +129,7 @@ module _ (t u : List ℕ) (number v i : ℕ) (l : length t ≡ tableSize) (more 
   unfolding objectAt
   test = ap (λ (o : Object). o .number is number) same
 
-  pub renewed-one : getD u (3 + i) 0 ≡ number → Became t (set u (19 + i) v) (frontedIn renewing-next t)
+  pub renewed-one : getD u (3 + i) 0 ≡ number → HasContent t (set u (19 + i) v) (contentWithFront renewing-next t)
   renewed-one e = record {
     long = length-set u (19 + i) v ∙ b .long;
     version = getD-set-other u (19 + i) 0 v 0 (λ q. omega arith) ∙ b .version;
@@ -140,15 +140,15 @@ module _ (t u : List ℕ) (number v i : ℕ) (l : length t ≡ tableSize) (more 
         ∙ ap (λ (o : Object). set (places u) i (withVersion v o)) same
         ∙ ap (λ (r : List Object). set r i (withVersion v it)) (b .objects)
         ∙ front-store renewing (places t) i (withVersion v it) noObject (room .0) (room .2)
-        ∙ ap (λ (f : List Object). fronted f t) (sym step);
+        ∙ ap (λ (f : List Object). withFront f t) (sym step);
   }
     where
       step : renewing-next ≡ renewing ++ (withVersion v it ∷ [])
       step =
-          change-next Object.number number (withVersion v) (heldIn t) i noObject more
+          change-next Object.number number (withVersion v) (objectsIn t) i noObject more
           ∙ rw (sym test ∙ eq-eqb (getD u (3 + i) 0) number e) refl
 
-  pub renewed-none : (getD u (3 + i) 0 ≡ number → ⊥) → Became t u (frontedIn renewing-next t)
+  pub renewed-none : (getD u (3 + i) 0 ≡ number → ⊥) → HasContent t u (contentWithFront renewing-next t)
   renewed-none e = record {
     long = b .long;
     version = b .version;
@@ -157,45 +157,45 @@ module _ (t u : List ℕ) (number v i : ℕ) (l : length t ≡ tableSize) (more 
     objects =
         b .objects
         ∙ front-pass renewing (places t) it noObject (omega (arith, room)) here
-        ∙ ap (λ (f : List Object). fronted f t) (sym step);
+        ∙ ap (λ (f : List Object). withFront f t) (sym step);
   }
     where
       here : it ≡ getD (places t) (length renewing) noObject
       here =
-          held-at t i more ∙ sym (places-at t i (room .1))
+          objects-at t i more ∙ sym (places-at t i (room .1))
           ∙ ap (λ (j : ℕ). getD (places t) j noObject) (sym (room .0))
 
       step : renewing-next ≡ renewing ++ (it ∷ [])
       step =
-          change-next Object.number number (withVersion v) (heldIn t) i noObject more
+          change-next Object.number number (withVersion v) (objectsIn t) i noObject more
           ∙ rw (sym test ∙ ne-eqb (getD u (3 + i) 0) number e) refl
 
 -- ---- operation 6: of the first i those of other numbers are kept, k of them, and now one more is looked at
-module _ (t u : List ℕ) (number i k : ℕ) (more : i < length (heldIn t))
-    (b : Became t u (frontedIn (keep (λ (a : Object). a .number isnt number) (take i (heldIn t))) t))
-    (e : k ≡ length (keep (λ (a : Object). a .number isnt number) (take i (heldIn t)))) where
+module _ (t u : List ℕ) (number i k : ℕ) (more : i < length (objectsIn t))
+    (b : HasContent t u (contentWithFront (keep (λ (a : Object). a .number isnt number) (take i (objectsIn t))) t))
+    (e : k ≡ length (keep (λ (a : Object). a .number isnt number) (take i (objectsIn t)))) where
   abbrev passes : Object → Bool
   passes a = a .number isnt number
 
   abbrev keeping : List Object
-  keeping = keep passes (take i (heldIn t))
+  keeping = keep passes (take i (objectsIn t))
 
   abbrev keeping-next : List Object
-  keeping-next = keep passes (take (i + 1) (heldIn t))
+  keeping-next = keep passes (take (i + 1) (objectsIn t))
 
   pub kept-low : k ≤ i
-  kept-low = omega (arith, length-keep passes (take i (heldIn t)), length-take i (heldIn t))
+  kept-low = omega (arith, length-keep passes (take i (objectsIn t)), length-take i (objectsIn t))
 
-  met : getD (heldIn u) i noObject ≡ getD (heldIn t) i noObject
-  met = held-still t u keeping b i (omega (arith, kept-low)) more
+  met : getD (objectsIn u) i noObject ≡ getD (objectsIn t) i noObject
+  met = objects-still t u keeping b i (omega (arith, kept-low)) more
 
-  module _ (o : Object) (q : o ≡ getD (heldIn u) i noObject) where
-    is-it : getD (heldIn t) i noObject ≡ o
+  module _ (o : Object) (q : o ≡ getD (objectsIn u) i noObject) where
+    is-it : getD (objectsIn t) i noObject ≡ o
     is-it = sym (q ∙ met)
 
     -- it is kept: it was stored at place k
-    pub kept-one : (w : List ℕ) → (o .number ≡ number → ⊥) → Became u w (storedIn k o u)
-        → (Became t w (frontedIn keeping-next t)) × (k + 1 ≡ length keeping-next)
+    pub kept-one : (w : List ℕ) → (o .number ≡ number → ⊥) → HasContent u w (contentWithObject k o u)
+        → (HasContent t w (contentWithFront keeping-next t)) × (k + 1 ≡ length keeping-next)
     kept-one w n s = (
       record {
         long = s .long ∙ b .long;
@@ -205,41 +205,41 @@ module _ (t u : List ℕ) (number i k : ℕ) (more : i < length (heldIn t))
         objects =
             s .objects ∙ ap (λ (r : List Object). set r k o) (b .objects)
             ∙ front-store keeping (places t) k o noObject (sym e) room
-            ∙ ap (λ (f : List Object). fronted f t) (sym step);
+            ∙ ap (λ (f : List Object). withFront f t) (sym step);
       },
       omega (arith, ap length step, length-append keeping (o ∷ [])),
     )
       where
         room : k < length (places t)
-        room = omega (arith, kept-low, held-length t, places-length t)
+        room = omega (arith, kept-low, objects-length t, places-length t)
 
         step : keeping-next ≡ keeping ++ (o ∷ [])
         step =
-            keep-next passes (heldIn t) i noObject more
+            keep-next passes (objectsIn t) i noObject more
             (ap passes is-it ∙ ap not (ne-eqb (o .number) number n))
             ∙ ap (λ (x : Object). keeping ++ (x ∷ [])) is-it
 
     -- it goes
-    pub kept-none : o .number ≡ number → (Became t u (frontedIn keeping-next t)) × (k ≡ length keeping-next)
+    pub kept-none : o .number ≡ number → (HasContent t u (contentWithFront keeping-next t)) × (k ≡ length keeping-next)
     kept-none n = (
       record {
         long = b .long;
         version = b .version;
         last = b .last;
         count = b .count;
-        objects = b .objects ∙ ap (λ (f : List Object). fronted f t) (sym step);
+        objects = b .objects ∙ ap (λ (f : List Object). withFront f t) (sym step);
       },
       e ∙ sym (ap length step),
     )
       where
         step : keeping-next ≡ keeping
-        step = keep-same passes (heldIn t) i noObject more (ap passes is-it ∙ ap not (eq-eqb (o .number) number n))
+        step = keep-same passes (objectsIn t) i noObject more (ap passes is-it ∙ ap not (eq-eqb (o .number) number n))
 
 -- ---- the whole of each operation
 -- 4, of the partition: the last version given, then its own
 pub raised-partition : (t : List ℕ) (number v : ℕ) → length t ≡ tableSize → number ≡ 0
-    → Became t (set (set t 1 v) 0 v) (raisedIn number v t)
-unfolding raisedIn
+    → HasContent t (set (set t 1 v) 0 v) (raisedContent number v t)
+unfolding raisedContent
 raised-partition t number v l e = record {
   long = length-set (set t 1 v) 0 v ∙ length-set t 1 v;
   version = getD-set-same (set t 1 v) 0 v 0 (omega (arith, length-set t 1 v)) ∙ rw zero-is;
@@ -253,27 +253,27 @@ raised-partition t number v l e = record {
 
 -- 4, of an object: the last version given, then the objects of its number
 pub raised-object : (t u : List ℕ) (number v : ℕ) → length t ≡ tableSize → (number ≡ 0 → ⊥)
-    → Became (set t 1 v) u
-    (frontedIn (change Object.number number (withVersion v) (heldIn (set t 1 v))) (set t 1 v))
-    → Became t u (raisedIn number v t)
-unfolding raisedIn
+    → HasContent (set t 1 v) u
+    (contentWithFront (change Object.number number (withVersion v) (objectsIn (set t 1 v))) (set t 1 v))
+    → HasContent t u (raisedContent number v t)
+unfolding raisedContent
 raised-object t u number v l e b = record {
   long = b .long ∙ length-set t 1 v;
   version = b .version ∙ getD-set-other t 1 0 v 0 (λ q. omega arith) ∙ rw zero-isnt;
   last = b .last ∙ getD-set-same t 1 v 0 (omega arith);
   count = b .count ∙ getD-set-other t 1 2 v 0 (λ q. omega arith);
-  objects = b .objects ∙ rw (held-head t 1 v (omega arith), places-head t 1 v (omega arith), zero-isnt);
+  objects = b .objects ∙ rw (objects-head t 1 v (omega arith), places-head t 1 v (omega arith), zero-isnt);
 }
   where
     zero-isnt : (number is 0) ≡ false
     zero-isnt = ne-eqb number 0 e
 
 -- 5, where there is room: the last version given, the object at the first free place, the count
-pub joined-room : (t u : List ℕ) (o : Object) (n : ℕ) → length t ≡ tableSize → n ≡ getD t 2 0 → n < 16
-    → Became (set t 1 (o .version)) u (storedIn n o (set t 1 (o .version)))
-    → Became t (set u 2 (n + 1)) (joinedIn o t)
-unfolding joinedIn
-joined-room t u o n l e h b = record {
+pub created-room : (t u : List ℕ) (o : Object) (n : ℕ) → length t ≡ tableSize → n ≡ getD t 2 0 → n < 16
+    → HasContent (set t 1 (o .version)) u (contentWithObject n o (set t 1 (o .version)))
+    → HasContent t (set u 2 (n + 1)) (createdContent o t)
+unfolding createdContent
+created-room t u o n l e h b = record {
   long = length-set u 2 (n + 1) ∙ b .long ∙ length-set t 1 (o .version);
   version = getD-set-other u 2 0 (n + 1) 0 (λ q. omega arith) ∙ b .version
       ∙ getD-set-other t 1 0 (o .version) 0 (λ q. omega arith);
@@ -282,22 +282,22 @@ joined-room t u o n l e h b = record {
       ∙ rw (fits, e);
   objects =
       places-head u 2 (n + 1) (omega arith) ∙ b .objects
-      ∙ ap (λ (r : List Object). set r n o) (places-head t 1 (o .version) (omega arith) ∙ held-fronted t)
-      ∙ front-store (heldIn t) (places t) n o noObject full (omega (arith, places-length t))
+      ∙ ap (λ (r : List Object). set r n o) (places-head t 1 (o .version) (omega arith) ∙ objects-front t)
+      ∙ front-store (objectsIn t) (places t) n o noObject full (omega (arith, places-length t))
       ∙ rw fits;
 }
   where
     fits : (getD t 2 0 under mostObjects) ≡ true
     fits = lt-ltb (getD t 2 0) mostObjects (omega arith)
 
-    full : length (heldIn t) ≡ n
-    full = omega (arith, held-length t, count-is t l)
+    full : length (objectsIn t) ≡ n
+    full = omega (arith, objects-length t, count-is t l)
 
 -- 5, where there is none
-pub joined-full : (t : List ℕ) (o : Object) → length t ≡ tableSize → 16 ≤ getD t 2 0
-    → Became t (set t 1 (o .version)) (joinedIn o t)
-unfolding joinedIn
-joined-full t o l h = record {
+pub created-full : (t : List ℕ) (o : Object) → length t ≡ tableSize → 16 ≤ getD t 2 0
+    → HasContent t (set t 1 (o .version)) (createdContent o t)
+unfolding createdContent
+created-full t o l h = record {
   long = length-set t 1 (o .version);
   version = getD-set-other t 1 0 (o .version) 0 (λ q. omega arith);
   last = getD-set-same t 1 (o .version) 0 (omega arith);
@@ -309,19 +309,19 @@ joined-full t o l h = record {
     none = le-ltb (getD t 2 0) mostObjects h
 
 -- 6: what is kept of all, then the count
-pub removed-all : (t u : List ℕ) (number i k : ℕ) → length t ≡ tableSize → i ≡ length (heldIn t)
-    → Became t u (frontedIn (keep (λ (a : Object). a .number isnt number) (take i (heldIn t))) t)
-    → k ≡ length (keep (λ (a : Object). a .number isnt number) (take i (heldIn t)))
-    → Became t (set u 2 k) (removedIn number t)
-unfolding removedIn
-removed-all t u number i k l e b n = record {
+pub deleted-all : (t u : List ℕ) (number i k : ℕ) → length t ≡ tableSize → i ≡ length (objectsIn t)
+    → HasContent t u (contentWithFront (keep (λ (a : Object). a .number isnt number) (take i (objectsIn t))) t)
+    → k ≡ length (keep (λ (a : Object). a .number isnt number) (take i (objectsIn t)))
+    → HasContent t (set u 2 k) (deletedContent number t)
+unfolding deletedContent
+deleted-all t u number i k l e b n = record {
   long = length-set u 2 k ∙ b .long;
   version = getD-set-other u 2 0 k 0 (λ q. omega arith) ∙ b .version;
   last = getD-set-other u 2 1 k 0 (λ q. omega arith) ∙ b .last;
   count = getD-set-same u 2 k 0 (omega (arith, b .long)) ∙ n ∙ ap length whole;
   objects =
-      places-head u 2 k (omega arith) ∙ b .objects ∙ ap (λ (f : List Object). fronted f t) whole;
+      places-head u 2 k (omega arith) ∙ b .objects ∙ ap (λ (f : List Object). withFront f t) whole;
 }
   where
-    whole : keep (λ (a : Object). a .number isnt number) (take i (heldIn t)) ≡ others number t
-    whole = ap (keep (λ (a : Object). a .number isnt number)) (take-all i (heldIn t) (omega arith))
+    whole : keep (λ (a : Object). a .number isnt number) (take i (objectsIn t)) ≡ otherObjects number t
+    whole = ap (keep (λ (a : Object). a .number isnt number)) (take-all i (objectsIn t) (omega arith))

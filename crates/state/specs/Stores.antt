@@ -8,7 +8,7 @@ use lib.ListN.{length, getD, set, length-set}
 use lib.Seq.{ext-getD, getD-set-same, getD-set-other}
 use Rattle.rules.specs.declared.Object.{Object}
 use Rattle.rules.specs.Operations.{noObject, withVersion}
-use Rattle.state.specs.Table.{tableSize, objectAt, places, heldIn}
+use Rattle.state.specs.Table.{tableSize, objectAt, places, objectsIn}
 use Rattle.state.specs.Places.{places-length, places-at}
 
 -- ---- one place changes, or none
@@ -49,9 +49,9 @@ pub places-head : (t : List ℕ) (j v : ℕ) → j < 3 → places (set t j v) �
 places-head t j v h = places-same t (set t j v) (λ i m. head-object t j v i h)
 
 -- before the count, a store leaves what is held
-pub held-head : (t : List ℕ) (j v : ℕ) → j < 2 → heldIn (set t j v) ≡ heldIn t
-unfolding heldIn
-held-head t j v h = rw (
+pub objects-head : (t : List ℕ) (j v : ℕ) → j < 2 → objectsIn (set t j v) ≡ objectsIn t
+unfolding objectsIn
+objects-head t j v h = rw (
   length-set t j v,
   getD-set-other t j 2 v 0 (λ e. omega arith),
   places-head t j v (omega arith),

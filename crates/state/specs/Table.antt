@@ -10,7 +10,7 @@ use Rattle.rules.specs.declared.Object.{Object}
 use Rattle.rules.specs.Drive as rules
 use Rattle.rules.specs.Drive.{mostObjects}
 use Rattle.rules.specs.Operations.{noObject}
-use Rattle.state.specs.declared.Target.{Target}
+use Rattle.state.specs.declared.Lookup.{Lookup}
 use Rattle.state.specs.Padded.{padded}
 
 -- the partition's version, the last version given, how many objects there are; then, sixteen of each, the objects'
@@ -27,38 +27,38 @@ objectAt t i = record {
 }
 
 -- the n numbers from a on
-abbrev pub from : ℕ → ℕ → List ℕ
-from a zero = []
-from a (suc n) = a ∷ from (a + 1) n
+abbrev pub range : ℕ → ℕ → List ℕ
+range a zero = []
+range a (suc n) = a ∷ range (a + 1) n
 
 -- what stands at the sixteen places
 unfoldable pub places : List ℕ → List Object
-places t = map (objectAt t) (from 0 16)
+places t = map (objectAt t) (range 0 16)
 
 -- how many of them are objects; none where the list is no table
 abbrev pub countIn : List ℕ → ℕ
 countIn t = cond (length t is tableSize) (getD t 2 0) 0
 
 -- "Objects: at most 16 a partition, in order of creation"
-unfoldable pub heldIn : List ℕ → List Object
-heldIn t = take (countIn t) (places t)
+unfoldable pub objectsIn : List ℕ → List Object
+objectsIn t = take (countIn t) (places t)
 
 -- its version, the last version given, and its objects
 unfoldable pub partitionIn : List ℕ → rules.Partition Object
-partitionIn t = record { version = getD t 0 0; last = getD t 1 0; objects = heldIn t }
+partitionIn t = record { version = getD t 0 0; last = getD t 1 0; objects = objectsIn t }
 
 -- the same of any table whatever: a count over sixteen is that many objects, those past the places of number 0, so that
 -- no such table is sound
-unfoldable pub viewed : List ℕ → rules.Partition Object
-viewed t = record {
+unfoldable pub partitionView : List ℕ → rules.Partition Object
+partitionView t = record {
   version = getD t 0 0;
   last = getD t 1 0;
   objects = padded mostObjects noObject (getD t 2 0) (places t);
 }
 
 -- what a number names among the objects l
-unfoldable pub targetIn : List Object → ℕ → Target
-targetIn l n = record {
+unfoldable pub lookupIn : List Object → ℕ → Lookup
+lookupIn l n = record {
   missing = missing (find Object.number n l);
   object = Option·getD (find Object.number n l) noObject;
 }

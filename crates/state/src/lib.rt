@@ -9,30 +9,30 @@ ghost use Rattle.lemmas.specs.Lists.{change};
 ghost use Rattle.rules.specs.declared.Object.{Object};
 ghost use Rattle.rules.specs.Drive.{mostObjects};
 ghost use Rattle.rules.specs.Operations.{noObject, withVersion};
-ghost use Rattle.state.specs.Table.{tableSize, heldIn, targetIn};
-ghost use Rattle.state.specs.Changes.{Became, Changed, frontedIn, storedIn, raisedIn, joinedIn, removedIn};
-use lemmas::within;
+ghost use Rattle.state.specs.Table.{tableSize, objectsIn, lookupIn};
+ghost use Rattle.state.specs.Changes.{HasContent, ChangedTo, contentWithFront, contentWithObject, raisedContent, createdContent, deletedContent};
+use lemmas::smaller;
 use rules::Object;
 
 // What a number names: whether nothing, and the object, all zeros where nothing.
-pub struct Target {
+pub struct Lookup {
     pub missing: bool,
     pub object: Object,
 }
 
 // How many objects there are.
 pub fn object_count(table: &[u32]) -> usize
-    ensures { λ r. ⌜ (r ≡ length (heldIn (now (table .entry)))) × (r ≤ mostObjects) ⌝ }
+    ensures { λ r. ⌜ (r ≡ length (objectsIn (now (table .entry)))) × (r ≤ mostObjects) ⌝ }
 {
     if table.len() != 67 {
         return 0;
     }
-    within(table[2] as usize, 16)
+    smaller(table[2] as usize, 16)
 }
 
 // The object at a place; past the last, all zeros.
 pub fn object_at(table: &[u32], i: usize) -> Object
-    ensures { λ r. ⌜ r ≡ getD (heldIn (now (table .entry))) i noObject ⌝ }
+    ensures { λ r. ⌜ r ≡ getD (objectsIn (now (table .entry))) i noObject ⌝ }
 {
     if object_count(table) <= i {
         return Object {
@@ -51,14 +51,14 @@ pub fn object_at(table: &[u32], i: usize) -> Object
 }
 
 // The object with a number.
-pub fn named(table: &[u32], number: u32) -> Target
-    ensures { λ r. ⌜ r ≡ targetIn (heldIn (now (table .entry))) number ⌝ }
+pub fn look_up(table: &[u32], number: u32) -> Lookup
+    ensures { λ r. ⌜ r ≡ lookupIn (objectsIn (now (table .entry))) number ⌝ }
 {
     let n = object_count(table);
     let mut i = 0;
     while i < n {
         if table[3 + i] == number {
-            return Target {
+            return Lookup {
                 missing: false,
                 object: object_at(table, i),
             };
@@ -71,7 +71,7 @@ pub fn named(table: &[u32], number: u32) -> Target
         size: 0,
         start: 0,
     };
-    Target {
+    Lookup {
         missing: true,
         object: nothing,
     }
@@ -80,7 +80,7 @@ pub fn named(table: &[u32], number: u32) -> Target
 // Stores an object at a place.
 fn put(table: &mut [u32], i: usize, o: Object)
     requires { ⌜ (length (now table) ≡ tableSize) × (i < 16) ⌝ }
-    ensures { λ _. ⌜ Became (now (table .entry)) (now (table .exit)) (storedIn i o (now (table .entry))) ⌝ }
+    ensures { λ _. ⌜ HasContent (now (table .entry)) (now (table .exit)) (contentWithObject i o (now (table .entry))) ⌝ }
 {
     table[3 + i] = o.number;
     table[19 + i] = o.version;
@@ -91,8 +91,8 @@ fn put(table: &mut [u32], i: usize, o: Object)
 // Gives each object of a number a version.
 fn renew(table: &mut [u32], number: u32, version: u32)
     requires { ⌜ length (now table) ≡ tableSize ⌝ }
-    ensures { λ _. ⌜ Became (now (table .entry)) (now (table .exit))
-        (frontedIn (change Object.number number (withVersion version) (heldIn (now (table .entry))))
+    ensures { λ _. ⌜ HasContent (now (table .entry)) (now (table .exit))
+        (contentWithFront (change Object.number number (withVersion version) (objectsIn (now (table .entry))))
         (now (table .entry))) ⌝ }
 {
     let n = object_count(&*table);
@@ -108,7 +108,7 @@ fn renew(table: &mut [u32], number: u32, version: u32)
 
 // Operation 4: the object, or for number 0 the partition, has a new version, now the last given.
 pub fn raise(table: &mut [u32], number: u32, version: u32)
-    ensures { λ _. ⌜ Changed (now (table .entry)) (now (table .exit)) (raisedIn number version (now (table .entry))) ⌝ }
+    ensures { λ _. ⌜ ChangedTo (now (table .entry)) (now (table .exit)) (raisedContent number version (now (table .entry))) ⌝ }
 {
     if table.len() != 67 {
         return;
@@ -122,8 +122,8 @@ pub fn raise(table: &mut [u32], number: u32, version: u32)
 }
 
 // Operation 5: one object more, where there is room; its version is now the last given.
-pub fn join(table: &mut [u32], o: Object)
-    ensures { λ _. ⌜ Changed (now (table .entry)) (now (table .exit)) (joinedIn o (now (table .entry))) ⌝ }
+pub fn create(table: &mut [u32], o: Object)
+    ensures { λ _. ⌜ ChangedTo (now (table .entry)) (now (table .exit)) (createdContent o (now (table .entry))) ⌝ }
 {
     if table.len() != 67 {
         return;
@@ -139,8 +139,8 @@ pub fn join(table: &mut [u32], o: Object)
 
 // Operation 6: the object goes. The others move to the front, in their order, and are counted; what stands from there
 // on stays.
-pub fn remove(table: &mut [u32], number: u32)
-    ensures { λ _. ⌜ Changed (now (table .entry)) (now (table .exit)) (removedIn number (now (table .entry))) ⌝ }
+pub fn delete(table: &mut [u32], number: u32)
+    ensures { λ _. ⌜ ChangedTo (now (table .entry)) (now (table .exit)) (deletedContent number (now (table .entry))) ⌝ }
 {
     if table.len() != 67 {
         return;

@@ -6,7 +6,7 @@ use mathlib.Core.Bool.{cond}
 use mathlib.Core.List.{List}
 use Prim.Native.Nat.{ℕ, _≤_}
 use Rattle.lemmas.specs.Tests.{_is_}
-use Rattle.lemmas.specs.Rows.{firstRow}
+use Rattle.lemmas.specs.RowTable.{firstRow}
 use Rattle.rules.specs.declared.Credential.{Credential}
 use Rattle.rules.specs.declared.Request.{Request}
 use Rattle.rules.specs.Frame.{requestMagic, fields}
@@ -47,8 +47,8 @@ secondNumber Delete = 0
 secondNumber (SetKey target) = 0
 
 -- a parsed request's numbers
-unfoldable pub requestTold : ParsedRequest → Request
-requestTold q = record {
+unfoldable pub numbersOf : ParsedRequest → Request
+numbersOf q = record {
   magic = requestMagic;
   operation = operationNumber (q .operation);
   level = q .level;
@@ -60,35 +60,35 @@ requestTold q = record {
 }
 
 -- ---- what an answer tells: a row's number, or the numbers of both records
-pub data Told : Type 0 where
-  refusedBy : ℕ → Told
-  fieldsOf : Credential → Request → Told
+pub data ParseAnswer : Type 0 where
+  refusedBy : ℕ → ParseAnswer
+  fieldsOf : Credential → Request → ParseAnswer
 
-abbrev pub told : Parsed → Told
-told (Refused row) = refusedBy row
-told (Fields c q) = fieldsOf c (requestTold q)
+abbrev pub answerOf : Parsed → ParseAnswer
+answerOf (Refused row) = refusedBy row
+answerOf (Fields c q) = fieldsOf c (numbersOf q)
 
 -- the row that it tells, 0 with fields
-abbrev pub rowTold : Parsed → ℕ
-rowTold (Refused row) = row
-rowTold (Fields c q) = 0
+abbrev pub answerRow : Parsed → ℕ
+answerRow (Refused row) = row
+answerRow (Fields c q) = 0
 
 -- ---- what a frame's answer has to tell: the lowest of rows 2 to 7 that applies, or the fields
-unfoldable pub answer : ℕ → Credential → Request → Told
-answer row c r = cond (row is 0) (fieldsOf c r) (refusedBy row)
+unfoldable pub answerBy : ℕ → Credential → Request → ParseAnswer
+answerBy row c r = cond (row is 0) (fieldsOf c r) (refusedBy row)
 
 unfoldable pub frameRow : List ℕ → ℕ
 frameRow f = firstRow (frameRows f (fields f))
 
-unfoldable pub parseOf : List ℕ → Told
-parseOf f = answer (frameRow f) (fields f .cred) (fields f .req)
+unfoldable pub frameAnswer : List ℕ → ParseAnswer
+frameAnswer f = answerBy (frameRow f) (fields f .cred) (fields f .req)
 
 -- ---- the same from the two records and the frame's length, which has 96 bytes at least: rows 3 to 7
-unfoldable pub toldOf : Credential → Request → ℕ → Told
-toldOf c r len = answer (recordRow c r len) c r
+unfoldable pub recordsAnswer : Credential → Request → ℕ → ParseAnswer
+recordsAnswer c r len = answerBy (recordRow c r len) c r
 
 -- an operation's numbers of which none is lost in the enum: an argument that it does not carry is 0
-pub record Whole (op a b : ℕ) : Type 0 where
+pub record ArgumentsKept (op a b : ℕ) : Type 0 where
   pub low : 1 ≤ op
   pub high : op ≤ 7
   pub look : op ≡ 3 → (a ≡ 0) × (b ≡ 0)

@@ -5,9 +5,9 @@ use mathlib.Core.List.{List}
 use Prim.Native.Nat.{ℕ, _≤_, _<_}
 use lib.ListN.{length}
 use borrow.Author.Tests.{ltb-false, eqb-true, eqb-false, lt-ltb, le-ltb, not-false}
-use Rattle.lemmas.specs.Tests.{_is_, _isnt_, and-false, or-l, or-r, none-of}
+use Rattle.lemmas.specs.Tests.{_is_, _isnt_, and-rest-false, or-l, or-r, none-of}
 use Rattle.lemmas.specs.Lists.{every}
-use Rattle.lemmas.specs.Rows.{firstRow, applies, none-applies}
+use Rattle.lemmas.specs.RowTable.{firstRow, applies, none-applies}
 use Rattle.rules.specs.declared.Credential.{Credential}
 use Rattle.rules.specs.declared.Request.{Request}
 use Rattle.rules.specs.Frame.{credentialMagic, requestMagic, requestStart, credentialAt, requestAt, fields}
@@ -21,36 +21,36 @@ use Rattle.wire.specs.Parse.{
   operationNumber,
   firstNumber,
   secondNumber,
-  requestTold,
-  Told,
+  numbersOf,
+  ParseAnswer,
   refusedBy,
   fieldsOf,
-  told,
-  rowTold,
-  answer,
+  answerOf,
+  answerRow,
+  answerBy,
   frameRow,
-  parseOf,
-  toldOf,
-  Whole,
+  frameAnswer,
+  recordsAnswer,
+  ArgumentsKept,
 }
 
 -- ---- for a caller
 -- fields: no row from 2 to 7 applies, and they are the frame's
-pub fields-told : (f : List ℕ) (c : Credential) (q : ParsedRequest) → told (Fields c q) ≡ parseOf f
-    → (frameRow f ≡ 0) × (c ≡ fields f .cred) × (requestTold q ≡ fields f .req)
-unfolding parseOf answer
-fields-told f c q e = go (frameRow f is 0) refl e
+pub answered-fields : (f : List ℕ) (c : Credential) (q : ParsedRequest) → answerOf (Fields c q) ≡ frameAnswer f
+    → (frameRow f ≡ 0) × (c ≡ fields f .cred) × (numbersOf q ≡ fields f .req)
+unfolding frameAnswer answerBy
+answered-fields f c q e = go (frameRow f is 0) refl e
   where
     go : (b : Bool) → (frameRow f is 0) ≡ b
-        → fieldsOf c (requestTold q) ≡ cond b (fieldsOf (fields f .cred) (fields f .req)) (refusedBy (frameRow f))
-        → (frameRow f ≡ 0) × (c ≡ fields f .cred) × (requestTold q ≡ fields f .req)
+        → fieldsOf c (numbersOf q) ≡ cond b (fieldsOf (fields f .cred) (fields f .req)) (refusedBy (frameRow f))
+        → (frameRow f ≡ 0) × (c ≡ fields f .cred) × (numbersOf q ≡ fields f .req)
     go true z e = (eqb-true (frameRow f) 0 z, cc, cc)
     go false z e = (cc, cc, cc)
 
 -- a row: it is the frame's, and not 0
-pub refused-told : (f : List ℕ) (row : ℕ) → told (Refused row) ≡ parseOf f → (row ≡ frameRow f) × (row ≡ 0 → ⊥)
-unfolding parseOf answer
-refused-told f row e = go (frameRow f is 0) refl e
+pub answered-refused : (f : List ℕ) (row : ℕ) → answerOf (Refused row) ≡ frameAnswer f → (row ≡ frameRow f) × (row ≡ 0 → ⊥)
+unfolding frameAnswer answerBy
+answered-refused f row e = go (frameRow f is 0) refl e
   where
     go : (b : Bool) → (frameRow f is 0) ≡ b
         → refusedBy row ≡ cond b (fieldsOf (fields f .cred) (fields f .req)) (refusedBy (frameRow f))
@@ -59,19 +59,19 @@ refused-told f row e = go (frameRow f is 0) refl e
     go false z e = let r : row ≡ frameRow f = cc in (r, λ h. eqb-false (frameRow f) 0 z (sym r ∙ h))
 
 -- either way, `row_of` gives the frame's row
-pub row-told : (f : List ℕ) (p : Parsed) → told p ≡ parseOf f → rowTold p ≡ frameRow f
-row-told f (Refused row) e = refused-told f row e .0
-row-told f (Fields c q) e = sym (fields-told f c q e .0)
+pub answered-row : (f : List ℕ) (p : Parsed) → answerOf p ≡ frameAnswer f → answerRow p ≡ frameRow f
+answered-row f (Refused row) e = answered-refused f row e .0
+answered-row f (Fields c q) e = sym (answered-fields f c q e .0)
 
 -- ---- for the parse itself: a short frame, and one with room for the records
-pub short-told : (f : List ℕ) → length f < 96 → parseOf f ≡ refusedBy 2
-unfolding parseOf frameRow frameRows firstRow answer
-short-told f h = rw (lt-ltb (length f) 96 h)
+pub answered-short : (f : List ℕ) → length f < 96 → frameAnswer f ≡ refusedBy 2
+unfolding frameAnswer frameRow frameRows firstRow answerBy
+answered-short f h = rw (lt-ltb (length f) 96 h)
 
-pub long-told : (f : List ℕ) → 96 ≤ length f
-    → parseOf f ≡ toldOf (credentialAt f 0) (requestAt f requestStart) (length f)
-unfolding parseOf toldOf frameRow recordRow frameRows firstRow fields
-long-told f h = rw (le-ltb (length f) 96 h)
+pub answered-long : (f : List ℕ) → 96 ≤ length f
+    → frameAnswer f ≡ recordsAnswer (credentialAt f 0) (requestAt f requestStart) (length f)
+unfolding frameAnswer recordsAnswer frameRow recordRow frameRows firstRow fields
+answered-long f h = rw (le-ltb (length f) 96 h)
 
 both-zero : (a b : ℕ) → (a isnt 0 || b isnt 0) ≡ false → (a ≡ 0) × (b ≡ 0)
 both-zero a b e = (
@@ -105,18 +105,18 @@ module _ (c : Credential) (r : Request) (len : ℕ) (clear : recordRow c r len �
   bare : (r .operation is 3 || r .operation is 4 || r .operation is 6) ≡ true → (r .A ≡ 0) × (r .B ≡ 0)
   bare h =
       both-zero (r .A) (r .B)
-      (and-false (r .operation is 3 || r .operation is 4 || r .operation is 6) (r .A isnt 0 || r .B isnt 0) h
+      (and-rest-false (r .operation is 3 || r .operation is 4 || r .operation is 6) (r .A isnt 0 || r .B isnt 0) h
       (none-of (misfits c r) fitting 4))
 
   -- and B is 0 for operation 7
   keyless : (r .operation is 7) ≡ true → r .B ≡ 0
   keyless h =
       eqb-true (r .B) 0
-      (not-false (r .B is 0) (and-false (r .operation is 7) (r .B isnt 0) h (none-of (misfits c r) fitting 6)))
+      (not-false (r .B is 0) (and-rest-false (r .operation is 7) (r .B isnt 0) h (none-of (misfits c r) fitting 6)))
 
   -- the operation's enum loses nothing
-  pub whole : Whole (r .operation) (r .A) (r .B)
-  whole = record {
+  pub arguments-kept : ArgumentsKept (r .operation) (r .A) (r .B)
+  arguments-kept = record {
     low = ltb-false (r .operation) 1 (none-of (requestFaults r) within 0);
     high = ltb-false 7 (r .operation) (none-of (requestFaults r) within 1);
     look = λ h. bare (rw h);
@@ -126,10 +126,10 @@ module _ (c : Credential) (r : Request) (len : ℕ) (clear : recordRow c r len �
   }
 
   -- and neither does the parsed request
-  pub kept : (o : Operation) → operationNumber o ≡ r .operation → firstNumber o ≡ r .A → secondNumber o ≡ r .B
-      → requestTold (record { operation = o; level = r .level; time = r .time; count = r .count; n = r .n }) ≡ r
-  unfolding requestTold
-  kept o e a b = λ i. record {
+  pub numbers-kept : (o : Operation) → operationNumber o ≡ r .operation → firstNumber o ≡ r .A → secondNumber o ≡ r .B
+      → numbersOf (record { operation = o; level = r .level; time = r .time; count = r .count; n = r .n }) ≡ r
+  unfolding numbersOf
+  numbers-kept o e a b = λ i. record {
     magic = sym marked i;
     operation = e i;
     level = r .level;

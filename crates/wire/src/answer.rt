@@ -4,7 +4,7 @@ ghost use mathlib.Core.Path.{_≡_};
 ghost use Prim.Native.Nat.{_+_, _≤_};
 ghost use lib.ListN.{length};
 ghost use Rattle.rules.specs.Frame.{credentialSize, requestSize, credentialAt, requestAt};
-ghost use Rattle.wire.specs.Parse.{Whole, operationNumber, firstNumber, secondNumber, told, toldOf};
+ghost use Rattle.wire.specs.Parse.{ArgumentsKept, operationNumber, firstNumber, secondNumber, answerOf, recordsAnswer};
 use crate::Parsed;
 use crate::ParsedRequest;
 use rules::Operation;
@@ -19,7 +19,7 @@ pub fn credential_at(s: &[u8], at: usize) -> rules::Credential
 
 // The operation numbered op, with those of A and B that it carries; the others are 0.
 fn operation_of(op: u8, a: u32, b: u32) -> Operation
-    requires { ⌜ Whole op a b ⌝ }
+    requires { ⌜ ArgumentsKept op a b ⌝ }
     ensures { λ r. ⌜ (operationNumber r ≡ op) × (firstNumber r ≡ a) × (secondNumber r ≡ b) ⌝ }
 {
     match op {
@@ -41,7 +41,7 @@ fn operation_of(op: u8, a: u32, b: u32) -> Operation
 
 // The fields, or the row that refuses them.
 fn judge(c: rules::Credential, q: rules::Request, len: usize) -> Parsed
-    ensures { λ p. ⌜ told p ≡ toldOf c q len ⌝ }
+    ensures { λ p. ⌜ answerOf p ≡ recordsAnswer c q len ⌝ }
 {
     let row = record_rows::record_row(c, q, len);
     if row != 0 {
@@ -63,7 +63,7 @@ fn judge(c: rules::Credential, q: rules::Request, len: usize) -> Parsed
 // The request that stands at place at of the frame s, behind the credential c: the fields of both, or a row.
 pub fn judge_at(s: &[u8], at: usize, c: rules::Credential) -> Parsed
     requires { ⌜ at + requestSize ≤ length (now s) ⌝ }
-    ensures { λ p. ⌜ told p ≡ toldOf c (requestAt (now (s .entry)) at) (length (now (s .entry))) ⌝ }
+    ensures { λ p. ⌜ answerOf p ≡ recordsAnswer c (requestAt (now (s .entry)) at) (length (now (s .entry))) ⌝ }
 {
     judge(c, fields::request_in(s, at), s.len())
 }

@@ -1,6 +1,6 @@
 // The parse of a frame (document 01, rows 2 to 7): its fields, or the row that refuses it.
 ghost use mathlib.Core.Path.{_≡_};
-ghost use Rattle.wire.specs.Parse.{operationNumber, firstNumber, secondNumber, requestTold, told, rowTold, parseOf};
+ghost use Rattle.wire.specs.Parse.{operationNumber, firstNumber, secondNumber, numbersOf, answerOf, answerRow, frameAnswer};
 use rules::Operation;
 
 mod answer;
@@ -23,7 +23,7 @@ pub enum Parsed {
 
 // Rows 2 to 7, or the fields.
 pub fn parse(frame: &[u8]) -> Parsed
-    ensures { λ r. ⌜ told r ≡ parseOf (now (frame .entry)) ⌝ }
+    ensures { λ r. ⌜ answerOf r ≡ frameAnswer (now (frame .entry)) ⌝ }
 {
     if frame.len() < fields::LEAST_FRAME {
         return Parsed::Refused(2);
@@ -33,7 +33,7 @@ pub fn parse(frame: &[u8]) -> Parsed
 
 // The row that an answer tells, 0 with fields.
 pub fn row_of(p: Parsed) -> u32
-    ensures { λ r. ⌜ r ≡ rowTold p ⌝ }
+    ensures { λ r. ⌜ r ≡ answerRow p ⌝ }
 {
     match p {
         Parsed::Fields(_, _) => 0,
@@ -86,7 +86,7 @@ fn second_number(o: Operation) -> u32
 
 // A parsed request's numbers again.
 pub fn numbers(q: ParsedRequest) -> rules::Request
-    ensures { λ r. ⌜ r ≡ requestTold q ⌝ }
+    ensures { λ r. ⌜ r ≡ numbersOf q ⌝ }
 {
     let o = q.operation;
     rules::Request {

@@ -11,11 +11,11 @@ use lib.ListN.{drop, getD, length, replicate, take}
 use borrow.Author.Tests.{ne-eqb}
 use Rattle.lemmas.specs.BigEndian.{bigEndian, digit, encode, numberAt}
 use Rattle.lemmas.specs.Lists.{change, every, find, keep, missing, pairs, part, same, some?, splice, update}
-use Rattle.lemmas.specs.Rows.{firstRow, line, Row}
+use Rattle.lemmas.specs.RowTable.{firstRow, line, Row}
 use Rattle.lemmas.specs.Same.{same-refl}
 use Rattle.lemmas.specs.Tests.{_is_}
 use Rattle.digest.specs.Hmac.{hmac}
-use Rattle.digest.specs.Laws.{length-hmac}
+use Rattle.digest.specs.DigestLaws.{length-hmac}
 use Rattle.rules.specs.declared.Credential.{Credential}
 use Rattle.rules.specs.declared.Object.{Object}
 use Rattle.rules.specs.declared.Request.{Request}
@@ -25,10 +25,10 @@ use Rattle.rules.specs.Demands.{answer, State, step}
 use Rattle.rules.specs.Drive.{Drive, format, formatRows, refresh, sameEntry, sound, soundObject, soundPartition}
 use Rattle.rules.specs.declared.Operation.{Operation}
 use Rattle.rules.specs.declared.Operation.the-variants.{Create, Delete, Look, Raise, Read, SetKey, Write}
-use Rattle.rules.specs.Frame.{covered, credentialAt, credentialBytes, entry, Fields, fields, memory, operation, operationOf, requestAt, requestBytes}
+use Rattle.rules.specs.Frame.{covered, credentialAt, credentialBytes, entry, Fields, fields, memoryIndex, operation, operationOf, requestAt, requestBytes}
 use Rattle.rules.specs.Scope.{Scope, driveScope}
 use Rattle.rules.specs.Gate.{Answer, Call, gate, granted, afterRefusal, refused, wholeAnswer}
-use Rattle.rules.specs.Operations.{created, credentialKey, deleted, digestOf, extentStart, head, headed, keyIn, keyPut, keySet, named, newKey, objectOf, placeOf, present, perform, raised, remember, reply, replyLength, sealed, signing, startOf}
+use Rattle.rules.specs.Operations.{created, credentialKey, deleted, digestOf, extentStart, head, headed, keyIn, keyPut, keySet, namedObject, newKey, objectOf, placement, presentVersion, perform, raised, remember, reply, replyLength, sealed, signing, placementStart}
 use Rattle.rules.specs.Rows.{driveRows, frameRows, row1, row10, row11, row12, row13, row14, row15, row16, row17, row18, row19, row20, row21, row22, row8, row9, rows, scopeRows}
 
 -- ---- the n bytes of a list, one by one: so that its length is seen without its being opened
@@ -244,9 +244,9 @@ keys-with b d m c h = go (row is 0) (row is 1)
 -- ---- all that the gate computes with, HMAC apart: `unfolding opened` opens it
 unfoldable pub opened : ℕ
 unfolding part splice same every some? pairs keep update find change missing firstRow numberAt digit bigEndian encode
-    credentialAt credentialBytes requestAt requestBytes fields covered operation entry memory soundObject
+    credentialAt credentialBytes requestAt requestBytes fields covered operation entry memoryIndex soundObject
     soundPartition sound sameEntry refresh formatRows format spot free next gaps better bestOf bestFit keyIn
-    signing credentialKey digestOf named objectOf present extentStart placeOf startOf head headed sealed
+    signing credentialKey digestOf namedObject objectOf presentVersion extentStart placement placementStart head headed sealed
     reply replyLength raised created deleted newKey keyPut keySet perform remember row1 row8 row9
     row10 row11 row12 row13 row14 row15 row16 row17 row18 row19 row20 row21 row22 frameRows driveRows
     scopeRows rows granted gate answer step spread rightDigest frame wrong forged gateWith callOf answerWith Known9

@@ -7,8 +7,8 @@ use borrow.Author.Needs.{needs}
 use Rattle.digest.specs.Hmac.{hmac}
 use Rattle.rules.specs.declared.Request.{Request}
 use Rattle.rules.specs.Frame.{covered}
-use Rattle.client.specs.Rows.{buildRow}
-use Rattle.client.specs.Laws.{build-refused, build-credential, build-request, build-room, build-granted}
+use Rattle.client.specs.ClientRows.{buildRow}
+use Rattle.client.specs.ClientLaws.{build-refused, build-credential, build-request, build-room, build-granted}
 use Rattle.client.proofs.build.Statement.{statement}
 use Rattle.client.proofs.build.Tie as tie
 

@@ -5,9 +5,9 @@ use Prim.Native.Nat.{ℕ}
 use lib.ListN.{length, take}
 use lib.Seq.{length-take-le}
 use Rattle.digest.specs.Hmac.{hmac}
-use Rattle.client.specs.Rows.{issueRow}
+use Rattle.client.specs.ClientRows.{issueRow}
 use borrow.Author.Needs.{needs}
-use Rattle.client.specs.Laws.{issue-refused, issue-granted, issue-room}
+use Rattle.client.specs.ClientLaws.{issue-refused, issue-granted, issue-room}
 use Rattle.client.proofs.issue.Statement.{statement}
 use Rattle.client.proofs.issue.Tie as tie
 

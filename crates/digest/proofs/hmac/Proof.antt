@@ -2,7 +2,7 @@
 use mathlib.Core.Path.{ap}
 use borrow.Author.Tests.{lt-ltb, le-ltb}
 use borrow.Author.Needs.{needs}
-use Rattle.lemmas.specs.Rows.{firstRow}
+use Rattle.lemmas.specs.RowTable.{firstRow}
 use Rattle.digest.specs.Digest.{answer}
 use Rattle.digest.proofs.hmac.Statement.{statement}
 use Rattle.digest.proofs.hmac.Tie as tie

@@ -8,11 +8,11 @@ use lib.ListN.{length, replicate}
 use lib.Dec.{eqb}
 use borrow.Author.Tests.{ne-eqb, eqb-true, not-false}
 use Rattle.lemmas.specs.Lists.{every}
-use Rattle.lemmas.specs.Rows.{firstRow, applies, none-applies}
+use Rattle.lemmas.specs.RowTable.{firstRow, applies, none-applies}
 use Rattle.lemmas.specs.Tests.{_isnt_, or-l, or-r}
 use Rattle.rules.specs.Drive.{Formatted, format, formatRows, newDrive, newTables, noDrive}
 use Rattle.keyring.specs.Keys.{keysIn}
-use Rattle.keyring.specs.Laws.{keys-none, fresh-set}
+use Rattle.keyring.specs.KeyLaws.{keys-none, fresh-set}
 use borrow.Author.Needs.{needs}
 use Rattle.drive.proofs.format.Statement.{statement}
 use Rattle.drive.proofs.format.Tie as tie

@@ -13,7 +13,7 @@ use borrow.Author.Tests.{eqb-true, eqb-false}
 use Rattle.lemmas.specs.Tests.{or-l, or-cases}
 use Rattle.rules.specs.Program.{broken}
 use Rattle.gate.specs.Answered.{stateOf}
-use Rattle.gate.specs.Serving.{ServeMet, rest, rest-all, length-rest}
+use Rattle.gate.specs.Promises.{AnswerMet, rest, rest-all, length-rest}
 use Rattle.gate.proofs.drain.Statement.{statement}
 use Rattle.gate.proofs.drain.Tie as tie
 
@@ -37,7 +37,7 @@ served c = c .before .before .before .before .before .before .before .before .be
 
 -- what a round does, of the bytes that were left
 round : (c : tie.After-serve Inv-loop μ-loop)
-    → ServeMet (stateOf ((head c) .loop .d) ((head c) .loop .medium)) ((head c) .loop .n)
+    → AnswerMet (stateOf ((head c) .loop .d) ((head c) .loop .medium)) ((head c) .loop .n)
     (rest ((start c) .args .input .now) ((head c) .loop .taken))
     (stateOf (c .serve .result .drive) (c .serve .last .1 .0)) (c .serve .result .calls) (c .serve .result .taken)
     (c .serve .result .put) (c .serve .last .1 .1 .1 .1 .1 .0)

@@ -6,13 +6,13 @@ use native.Mathlib.Omega.{arith}
 use lib.ListN.{length}
 use borrow.Author.Needs.{needs}
 use borrow.Author.Tests.{not-false}
-use Rattle.gate.specs.Serving.{Ready}
+use Rattle.gate.specs.Promises.{BetweenReads}
 use Rattle.gate.proofs.run.Statement.{statement}
 use Rattle.gate.proofs.run.Tie as tie
 
 abbrev Inv-loop : tie.InvT-loop
 Inv-loop medium₀ input₀ reply₀ out₀ t₀ medium input reply out t =
-    Ready (t .calls) (t .seen) (t .rest .from) (t .rest .to)
+    BetweenReads (t .calls) (t .seen) (t .rest .from) (t .rest .to)
     × (length medium ≡ length medium₀) × (length input ≡ length input₀) × (length reply ≡ length reply₀)
     × (length out ≡ length out₀)
 
@@ -34,7 +34,7 @@ turned c = c .before .before .before .before .before .before .before .before .be
 
 -- what a turn that goes on leaves
 kept : (c : tie.Else2 Inv-loop μ-loop)
-    → Ready ((turned c) .turn .result .calls) ((turned c) .turn .result .seen)
+    → BetweenReads ((turned c) .turn .result .calls) ((turned c) .turn .result .seen)
     ((turned c) .turn .result .rest .from) ((turned c) .turn .result .rest .to)
     × ((turned c) .before .before .before .before .before .before .before .loop .t .seen < (turned c) .turn .result .seen)
 kept c = (turned c) .turn .ensures (not-false ((turned c) .turn .result .go) (c .if2 .left))

@@ -12,8 +12,8 @@ use Rattle.lines.specs.Text.{placeAfter}
 use Rattle.lines.specs.Decimal.{place-within, length-printed}
 use Rattle.drive.specs.Met.{GateMet, callOf}
 use Rattle.gate.specs.Answered.{stateOf, answered}
-use Rattle.gate.specs.Said.{Said, said-none, said-call, text-put, frame-lent}
-use Rattle.gate.specs.Serving.{NextMet, next-stuck, next-whole, rest, rest-all, length-rest}
+use Rattle.gate.specs.Printed.{Printed, printed-none, printed-call, text-put, frame-lent}
+use Rattle.gate.specs.Promises.{NextMet, next-stuck, next-whole, rest, rest-all, length-rest}
 use Rattle.gate.proofs.serve.Statement.{statement}
 use Rattle.gate.proofs.serve.Tie as tie
 
@@ -21,7 +21,7 @@ abbrev Inv-loop : tie.InvT-loop
 Inv-loop medium₀ input calls reply₀ out₀ a₀ taken₀ n₀ put₀ medium reply out a taken n put =
     (taken ≤ length input) × (n ≤ calls + taken) × (put ≤ length out) × (taken ≡ 0 → put ≡ 0)
     × (length medium ≡ length medium₀) × (length reply ≡ length reply₀) × (length out ≡ length out₀)
-    × (calls ≤ n) × Said (stateOf (a₀ .drive) medium₀) calls input (stateOf (a .drive) medium) n taken (take put out)
+    × (calls ≤ n) × Printed (stateOf (a₀ .drive) medium₀) calls input (stateOf (a .drive) medium) n taken (take put out)
 
 abbrev μ-loop : tie.MeasureT-loop
 μ-loop medium₀ input calls reply₀ out₀ a₀ taken₀ n₀ put₀ medium reply out a taken n put = length input - taken
@@ -72,7 +72,7 @@ loop-holds c =
       refl,
       refl,
       omega arith,
-      said-none (stateOf (a .drive) (a .medium .now)) (a .calls) (a .input .now),
+      printed-none (stateOf (a .drive) (a .medium .now)) (a .calls) (a .input .now),
     )
 
 add-start : tie.Need-add-start Inv-loop μ-loop
@@ -142,7 +142,7 @@ loop-again c =
     (w .1) (g .ensures)) in
     let a = answered (l .a .drive) (l .medium) (drop (l .taken) input) (l .reply) (g .result) (g .last .1 .0)
     (g .last .1 .1 .1 .1 .0) (l .inv .5 ∙ start .pre .2) h in
-    let more = said-call (stateOf (start .args .drive) (start .args .medium .now)) (start .args .calls) input
+    let more = printed-call (stateOf (start .args .drive) (start .args .medium .now)) (start .args .calls) input
     (stateOf (l .a .drive) (l .medium)) (l .n) (l .taken) (take (l .put) (l .out)) (g .result .row) (g .result .length)
     (stateOf (g .result .drive) (g .last .1 .0)) (l .inv .8) (l .inv .7) (w .0) (a .0) (a .1) (a .2) in (
       f .0,
@@ -154,11 +154,11 @@ loop-again c =
       search needs,
       omega (arith, l .inv .7),
       subst
-          (λ (x : List ℕ). Said (stateOf (start .args .drive) (start .args .medium .now)) (start .args .calls) input
+          (λ (x : List ℕ). Printed (stateOf (start .args .drive) (start .args .medium .now)) (start .args .calls) input
           (stateOf (g .result .drive) (g .last .1 .0)) (l .n + 1) (l .taken + e .before .whole-record .result .size) x)
           (sym text)
           (subst
-          (λ (k : ℕ). Said (stateOf (start .args .drive) (start .args .medium .now)) (start .args .calls) input
+          (λ (k : ℕ). Printed (stateOf (start .args .drive) (start .args .medium .now)) (start .args .calls) input
           (stateOf (g .result .drive) (g .last .1 .0)) (l .n + 1) (l .taken + k)
           (take (l .put) (l .out) ++ t)) (sym (w .2)) more),
     )

@@ -9,7 +9,7 @@ use borrow.Author.Needs.{needs}
 use borrow.Author.Tests.{not-false}
 use Rattle.rules.specs.Program.{broken}
 use Rattle.record.specs.Arrival.{wrong}
-use Rattle.gate.specs.Serving.{DrainMet, FetchMet, left-short}
+use Rattle.gate.specs.Promises.{DrainMet, FetchMet, left-short}
 use Rattle.gate.proofs.turn.Statement.{statement}
 use Rattle.gate.proofs.turn.Tie as tie
 

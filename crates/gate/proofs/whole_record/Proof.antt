@@ -7,9 +7,9 @@ use native.Mathlib.Omega.{arith}
 use lib.ListN.{length}
 use borrow.Author.Needs.{needs}
 use Rattle.record.specs.declared.Arrived.{Arrived}
-use Rattle.record.specs.Arrival.{told, toldOf}
-use Rattle.record.specs.Arriving.{IsWhole, whole-told, broken-told, short-told, wrong-broken}
-use Rattle.gate.specs.Serving.{next-none}
+use Rattle.record.specs.Arrival.{factsOf, recordFacts}
+use Rattle.record.specs.Arriving.{IsWhole, facts-of-whole, facts-of-broken, facts-of-short, wrong-broken}
+use Rattle.gate.specs.Promises.{next-none}
 use Rattle.gate.proofs.whole_record.Statement.{statement}
 use Rattle.gate.proofs.whole_record.Tie as tie
 
@@ -19,7 +19,7 @@ whole : (c : tie.After-known-told)
 whole c =
     let s : List ℕ = c .before .before .before .before .before .args .input .now in
     let g = c .before .a .given in
-    whole-told s (g .0 .0) (g .0 .1 .0) (ap told (sym (g .1)) ∙ c .before .before .before .arrival .ensures)
+    facts-of-whole s (g .0 .0) (g .0 .1 .0) (ap factsOf (sym (g .1)) ∙ c .before .before .before .arrival .ensures)
 
 add-t6 : tie.Need-add-t6
 add-t6 c = omega (arith, whole c .most)
@@ -36,13 +36,13 @@ returns c =
 returns-2 : tie.Need-returns-2
 returns-2 c =
     let s : List ℕ = c .before .before .before .before .args .input .now in
-    next-none s (wrong-broken s (broken-told s
-    (ap told (sym (c .enum-told .given .1)) ∙ c .before .before .arrival .ensures)))
+    next-none s (wrong-broken s (facts-of-broken s
+    (ap factsOf (sym (c .enum-told .given .1)) ∙ c .before .before .arrival .ensures)))
 
 returns-3 : tie.Need-returns-3
 returns-3 c =
     let s : List ℕ = c .before .before .before .before .args .input .now in
-    next-none s (short-told s (ap told (sym (c .enum-told2 .given .1)) ∙ c .before .before .arrival .ensures) .0)
+    next-none s (facts-of-short s (ap factsOf (sym (c .enum-told2 .given .1)) ∙ c .before .before .arrival .ensures) .0)
 
 pub whole-record-spec : {M : Type 1} → statement M
 whole-record-spec =

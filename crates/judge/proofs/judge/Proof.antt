@@ -1,22 +1,22 @@
-use Rattle.wire.specs.Parse.{requestTold}
+use Rattle.wire.specs.Parse.{numbersOf}
 use Rattle.state.specs.Table.{partitionIn}
-use Rattle.judge.specs.Judge.{rows-told}
+use Rattle.judge.specs.Judge.{rows-by-facts}
 use borrow.Author.Needs.{needs}
 use Rattle.judge.proofs.judge.Statement.{statement}
 use Rattle.judge.proofs.judge.Tie as tie
 
 returns : tie.Need-returns
-unfolding requestTold partitionIn
+unfolding numbersOf partitionIn
 returns c = λ s w.
     rw (
       c .time-row .ensures,
       c .before .object-row .ensures,
       c .before .before .room-row .ensures,
-      c .before .before .before .present .ensures,
+      c .before .before .before .present-version .ensures,
       c .before .before .before .before .number-at .ensures,
-      c .before .before .before .before .before .named .ensures,
+      c .before .before .before .before .before .look-up .ensures,
       c .before .before .before .before .before .before .numbers .ensures,
-    ) (rows-told s _ _ _ _ _ _ _ _ w)
+    ) (rows-by-facts s _ _ _ _ _ _ _ _ w)
 
 pub judge-spec : {M : Type 1} → statement M
 judge-spec =

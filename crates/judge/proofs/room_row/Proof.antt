@@ -1,10 +1,10 @@
-use Rattle.state.specs.Table.{partitionIn, targetIn}
+use Rattle.state.specs.Table.{partitionIn, lookupIn}
 use borrow.Author.Needs.{needs}
 use Rattle.judge.proofs.room_row.Statement.{statement}
 use Rattle.judge.proofs.room_row.Tie as tie
 
 returns : tie.Need-returns
-unfolding partitionIn targetIn
+unfolding partitionIn lookupIn
 returns c =
     rw (
       c .pick6 .ensures,
@@ -17,7 +17,7 @@ returns c =
       c .before .before .before .before .before .before .before .before .pick .ensures,
       c .before .before .before .before .before .before .before .before .before .reply-length .ensures,
       c .before .before .before .before .before .before .before .before .before .before .before .before .before .number-at .ensures,
-      c .before .before .before .before .before .before .before .before .before .before .before .before .before .before .named .ensures,
+      c .before .before .before .before .before .before .before .before .before .before .before .before .before .before .look-up .ensures,
     )
 
 pub room-row-spec : {M : Type 1} → statement M

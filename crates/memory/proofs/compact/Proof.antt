@@ -6,7 +6,7 @@ use lib.ListN.{length, take, drop, length-set}
 use borrow.Author.Needs.{needs}
 use Rattle.lemmas.specs.Lists.{keep}
 use Rattle.rules.specs.Drive.{lives}
-use Rattle.memory.specs.Memory.{entries, noEntry}
+use Rattle.memory.specs.Memory.{entriesIn, noEntry}
 use Rattle.memory.specs.Entries.{entries-count}
 use Rattle.memory.specs.Moves.{stored-back, back-of, kept-front, not-kept, moves-count, moves-all}
 use Rattle.memory.proofs.compact.Statement.{statement}
@@ -16,7 +16,7 @@ abbrev Inv-loop : tie.InvT-loop
 Inv-loop slots₀ holders₀ times₀ counts₀ n mark floor k₀ i₀ slots holders times counts k i =
     (i ≤ n) × (k ≤ i) × (length slots ≡ length slots₀) × (length holders ≡ length holders₀)
     × (length times ≡ length times₀) × (length counts ≡ length counts₀)
-    × (take k (entries slots holders times counts) ≡ keep (lives mark) (take i (entries slots₀ holders₀ times₀ counts₀)))
+    × (take k (entriesIn slots holders times counts) ≡ keep (lives mark) (take i (entriesIn slots₀ holders₀ times₀ counts₀)))
     × (drop k slots ≡ drop k slots₀) × (drop k holders ≡ drop k holders₀) × (drop k times ≡ drop k times₀)
     × (drop k counts ≡ drop k counts₀)
 
@@ -31,11 +31,11 @@ loop-again : tie.Need-loop-again Inv-loop μ-loop
 loop-again c =
     let l = c .before .before .before .before .before .before .loop in
     let a = c .before .before .before .before .before .before .before .before .before .before .before .before .args in
-    let E = entries (a .slots .now) (a .holders .now) (a .times .now) (a .counts .now) in
+    let E = entriesIn (a .slots .now) (a .holders .now) (a .times .now) (a .counts .now) in
     let long = entries-count (a .slots .now) (a .holders .now) (a .times .now) (a .counts .now) in
     let long-now = entries-count (l .slots) (l .holders) (l .times) (l .counts) in
     let more : l .i < length E = omega arith in
-    let same : length (entries (l .slots) (l .holders) (l .times) (l .counts)) ≡ length E = omega arith in
+    let same : length (entriesIn (l .slots) (l .holders) (l .times) (l .counts)) ≡ length E = omega arith in
     let back = back-of (a .slots .now) (a .holders .now) (a .times .now) (a .counts .now) (l .slots) (l .holders) (l .times) (l .counts) (l .k) (l .inv .7) (l .inv .8) (l .inv .9) (l .inv .10) in (
       omega arith,
       omega arith,
@@ -54,11 +54,11 @@ loop-again-2 : tie.Need-loop-again-2 Inv-loop μ-loop
 loop-again-2 c =
     let l = c .before .before .before .before .before .before .loop in
     let a = c .before .before .before .before .before .before .before .before .before .before .before .before .args in
-    let E = entries (a .slots .now) (a .holders .now) (a .times .now) (a .counts .now) in
+    let E = entriesIn (a .slots .now) (a .holders .now) (a .times .now) (a .counts .now) in
     let long = entries-count (a .slots .now) (a .holders .now) (a .times .now) (a .counts .now) in
     let long-now = entries-count (l .slots) (l .holders) (l .times) (l .counts) in
     let more : l .i < length E = omega arith in
-    let same : length (entries (l .slots) (l .holders) (l .times) (l .counts)) ≡ length E = omega arith in
+    let same : length (entriesIn (l .slots) (l .holders) (l .times) (l .counts)) ≡ length E = omega arith in
     let back = back-of (a .slots .now) (a .holders .now) (a .times .now) (a .counts .now) (l .slots) (l .holders) (l .times) (l .counts) (l .k) (l .inv .7) (l .inv .8) (l .inv .9) (l .inv .10) in
     let front = not-kept (a .mark) E (l .slots) (l .holders) (l .times) (l .counts) (l .i) (l .k) (l .inv .1) more same (l .inv .6) back (omega arith) in
     (omega arith, omega arith, l .inv .2, l .inv .3, l .inv .4, l .inv .5, front, l .inv .7, l .inv .8, l .inv .9, l .inv .10)
@@ -67,8 +67,8 @@ returns : tie.Need-returns Inv-loop μ-loop
 returns c =
     let l = c .before .loop in
     let a = c .before .before .before .before .before .before .before .args in
-    let E = entries (a .slots .now) (a .holders .now) (a .times .now) (a .counts .now) in
-    let X = entries (l .slots) (l .holders) (l .times) (l .counts) in
+    let E = entriesIn (a .slots .now) (a .holders .now) (a .times .now) (a .counts .now) in
+    let X = entriesIn (l .slots) (l .holders) (l .times) (l .counts) in
     let long = entries-count (a .slots .now) (a .holders .now) (a .times .now) (a .counts .now) in
     let long-now = entries-count (l .slots) (l .holders) (l .times) (l .counts) in
     let all : l .i ≡ length E = omega arith in

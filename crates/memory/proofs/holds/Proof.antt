@@ -8,14 +8,14 @@ use borrow.Author.Needs.{needs}
 use Rattle.lemmas.specs.Lists.{some?}
 use Rattle.lemmas.specs.Loops.{some-take}
 use Rattle.rules.specs.Drive.{sameEntry}
-use Rattle.memory.specs.Memory.{entries, noEntry}
+use Rattle.memory.specs.Memory.{entriesIn, noEntry}
 use Rattle.memory.specs.Entries.{entries-count, entries-at}
 use Rattle.memory.proofs.holds.Statement.{statement}
 use Rattle.memory.proofs.holds.Tie as tie
 
 abbrev Inv-loop : tie.InvT-loop
 Inv-loop slots holders times counts e n r₀ at₀ r at =
-    (at ≤ n) × (r ≡ some? (sameEntry e) (take at (entries slots holders times counts)))
+    (at ≤ n) × (r ≡ some? (sameEntry e) (take at (entriesIn slots holders times counts)))
 
 abbrev μ-loop : tie.MeasureT-loop
 μ-loop slots holders times counts e n r₀ at₀ r at = n - at
@@ -32,16 +32,16 @@ loop-again c =
     let h = a .holders .now in
     let t = a .times .now in
     let n = a .counts .now in
-    let m : l .at < length (entries s h t n) = omega (arith, entries-count s h t n) in (
+    let m : l .at < length (entriesIn s h t n) = omega (arith, entries-count s h t n) in (
       search needs,
-      rw (some-take (sameEntry (a .e)) (entries s h t n) (l .at) noEntry m, entries-at s h t n (l .at) m, l .inv .1, c .same-entry .ensures),
+      rw (some-take (sameEntry (a .e)) (entriesIn s h t n) (l .at) noEntry m, entries-at s h t n (l .at) m, l .inv .1, c .same-entry .ensures),
     )
 
 returns : tie.Need-returns Inv-loop μ-loop
 returns c =
     let l = c .before .loop in
     let a = c .before .before .before .before .before .before .before .args in
-    let E = entries (a .slots .now) (a .holders .now) (a .times .now) (a .counts .now) in
+    let E = entriesIn (a .slots .now) (a .holders .now) (a .times .now) (a .counts .now) in
     let m : length E ≤ l .at = omega (arith, entries-count (a .slots .now) (a .holders .now) (a .times .now) (a .counts .now)) in
     rw (take-all (l .at) E m) at (l .inv .1)
 

@@ -3,16 +3,16 @@ use mathlib.Core.Path.{_≡_}
 use mathlib.Core.List.{List}
 use Prim.Native.Nat.{ℕ}
 use borrow.Author.Needs.{needs}
-use Rattle.state.specs.Changes.{Changed}
+use Rattle.state.specs.Changes.{ChangedTo}
 use Rattle.state.specs.Steps.{changed-same}
 use Rattle.rules.specs.declared.Operation.{Operation}
-use Rattle.partition.specs.Partition.{appliedIn}
+use Rattle.partition.specs.Partition.{contentAfter}
 use Rattle.partition.proofs.apply.Statement.{statement}
 use Rattle.partition.proofs.apply.Tie as tie
 
 -- the operation of an arm
-arm : (o p : Operation) (n v s : ℕ) (t u : List ℕ) → o ≡ p → Changed t u (appliedIn p n v s t)
-    → Changed t u (appliedIn o n v s t)
+arm : (o p : Operation) (n v s : ℕ) (t u : List ℕ) → o ≡ p → ChangedTo t u (contentAfter p n v s t)
+    → ChangedTo t u (contentAfter o n v s t)
 arm o p n v s t u e h = rw e h
 
 returns : tie.Need-returns
@@ -40,13 +40,13 @@ returns-5 : tie.Need-returns-5
 returns-5 c =
     let k = c .before .before .before .before .before in
     let a = k .before .before .before .args in
-    arm (a .o) _ (a .number) (a .version) (a .start) (a .table .now) _ (k .o .given .1) (c .before .before .join .ensures)
+    arm (a .o) _ (a .number) (a .version) (a .start) (a .table .now) _ (k .o .given .1) (c .before .before .create .ensures)
 
 returns-6 : tie.Need-returns-6
 returns-6 c =
     let k = c .before .before .before .before in
     let a = k .before .before .before .args in
-    arm (a .o) _ (a .number) (a .version) (a .start) (a .table .now) _ (k .enum-told5 .given .1) (c .before .before .remove .ensures)
+    arm (a .o) _ (a .number) (a .version) (a .start) (a .table .now) _ (k .enum-told5 .given .1) (c .before .before .delete .ensures)
 
 returns-7 : tie.Need-returns-7
 returns-7 c =

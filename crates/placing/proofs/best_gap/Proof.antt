@@ -9,8 +9,8 @@ use Rattle.lemmas.specs.Loops.{fold, fold-take}
 use Rattle.rules.specs.declared.Object.{Object}
 use Rattle.rules.specs.Operations.{noObject}
 use Rattle.rules.specs.BestFit.{spot}
-use Rattle.state.specs.Table.{heldIn}
-use Rattle.placing.specs.Placing.{gapOf, held, tried, endOf, chosen, spot-nothing}
+use Rattle.state.specs.Table.{objectsIn}
+use Rattle.placing.specs.Placing.{gapOf, gapOption, tried, endOf, chosen, spot-nothing}
 use Rattle.placing.proofs.best_gap.Statement.{statement}
 use Rattle.placing.proofs.best_gap.Tie as tie
 
@@ -19,7 +19,7 @@ Inv-loop step quarter size table n best₀ i₀ best i =
     (i ≤ n)
     × (best .from ≤ 2 ^ 33)
     × (spot step (gapOf best) ≤ quarter)
-    × (held best ≡ fold (λ b (x : Object). tried step quarter (heldIn table) size b (endOf x)) (held best₀) (take i (heldIn table)))
+    × (gapOption best ≡ fold (λ b (x : Object). tried step quarter (objectsIn table) size b (endOf x)) (gapOption best₀) (take i (objectsIn table)))
 
 abbrev μ-loop : tie.MeasureT-loop
 μ-loop step quarter size table n best₀ i₀ best i = n - i
@@ -42,10 +42,10 @@ loop-again c =
     let l = c .before .before .before .before .before .loop in
     let s = c .before .before .before .before .before .before in
     let a = s .before .before .before .args in
-    let os = heldIn (a .table .now) in
+    let os = objectsIn (a .table .now) in
     let n = s .before .object-count .ensures .0 in
     let h : l .i < length os = omega arith in
-    let turn = fold-take (λ b (x : Object). tried (a .step) (a .quarter) os (a .size) b (endOf x)) (held (s .better-of .result)) os (l .i) noObject h in
+    let turn = fold-take (λ b (x : Object). tried (a .step) (a .quarter) os (a .size) b (endOf x)) (gapOption (s .better-of .result)) os (l .i) noObject h in
     let o = c .before .before .before .object-at .ensures in
     (search needs, c .better-of2 .ensures .1, c .better-of2 .ensures .2, rw (turn, ← o, ← l .inv .3) (c .better-of2 .ensures .0))
 
@@ -55,7 +55,7 @@ returns c =
     let l = c .before .loop in
     let a = c .before .before .before .before .before .args in
     let n = c .before .before .before .object-count .ensures .0 in
-    let all = take-all (l .i) (heldIn (a .table .now)) (omega arith) in
+    let all = take-all (l .i) (objectsIn (a .table .now)) (omega arith) in
     (rw (l .inv .3, all, c .before .before .better-of .ensures .0), l .inv .1, l .inv .2)
 
 pub best-gap-spec : {M : Type 1} → statement M

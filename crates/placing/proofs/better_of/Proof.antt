@@ -2,7 +2,7 @@
 use mathlib.Core.Path.{_≡_, sym, ap, _∙_}
 use mathlib.Core.Bool.{true, false}
 use borrow.Author.Needs.{needs}
-use Rattle.state.specs.Table.{heldIn}
+use Rattle.state.specs.Table.{objectsIn}
 use Rattle.placing.specs.Placing.{runFrom, wins, winner, loser, winner-low}
 use Rattle.placing.specs.declared.Run.{Run}
 use Rattle.placing.proofs.better_of.Statement.{statement}
@@ -17,17 +17,17 @@ unfolding runFrom
 returns c =
     let a = c .before .before .before .before .args in
     let e = c .before .before .run-from .ensures in
-    let h : wins (a .step) (a .size) (runFrom (a .quarter) (heldIn (a .table .now)) (a .from)) (a .best) ≡ true =
+    let h : wins (a .step) (a .size) (runFrom (a .quarter) (objectsIn (a .table .now)) (a .from)) (a .best) ≡ true =
     ap (λ (g : Run). wins (a .step) (a .size) g (a .best)) (sym e) ∙ sym (c .before .is-winner .ensures) ∙ c .if1 .taken in
-    (rw e (winner (a .step) (a .quarter) (a .size) (heldIn (a .table .now)) (a .best) (a .from) h), rw e (c .before .before .before .before .pre .0), rw e (winner-low (a .step) (a .quarter) (a .size) (heldIn (a .table .now)) (a .best) (a .from) h))
+    (rw e (winner (a .step) (a .quarter) (a .size) (objectsIn (a .table .now)) (a .best) (a .from) h), rw e (c .before .before .before .before .pre .0), rw e (winner-low (a .step) (a .quarter) (a .size) (objectsIn (a .table .now)) (a .best) (a .from) h))
 
 returns-2 : tie.Need-returns-2
 returns-2 c =
     let a = c .before .before .before .before .args in
     let e = c .before .before .run-from .ensures in
-    let h : wins (a .step) (a .size) (runFrom (a .quarter) (heldIn (a .table .now)) (a .from)) (a .best) ≡ false =
+    let h : wins (a .step) (a .size) (runFrom (a .quarter) (objectsIn (a .table .now)) (a .from)) (a .best) ≡ false =
     ap (λ (g : Run). wins (a .step) (a .size) g (a .best)) (sym e) ∙ sym (c .before .is-winner .ensures) ∙ c .if1 .left in
-    (loser (a .step) (a .quarter) (a .size) (heldIn (a .table .now)) (a .best) (a .from) h, c .before .before .before .before .pre .1, c .before .before .before .before .pre .2)
+    (loser (a .step) (a .quarter) (a .size) (objectsIn (a .table .now)) (a .best) (a .from) h, c .before .before .before .before .pre .1, c .before .before .before .before .pre .2)
 
 pub better-of-spec : {M : Type 1} → statement M
 better-of-spec =

@@ -13,14 +13,14 @@ use Rattle.lemmas.specs.Loops.{every-take}
 use Rattle.rules.specs.declared.Object.{Object}
 use Rattle.rules.specs.Operations.{noObject}
 use Rattle.rules.specs.BestFit.{free, next}
-use Rattle.state.specs.Table.{heldIn}
+use Rattle.state.specs.Table.{objectsIn}
 use Rattle.placing.specs.Placing.{runFrom, next-take}
 use Rattle.placing.proofs.run_from.Statement.{statement}
 use Rattle.placing.proofs.run_from.Tie as tie
 
 abbrev Inv-loop : tie.InvT-loop
 Inv-loop table quarter from n vacant₀ to₀ i₀ vacant to i =
-    (i ≤ n) × (vacant ≡ free (take i (heldIn table)) from) × (to ≡ next quarter (take i (heldIn table)) from)
+    (i ≤ n) × (vacant ≡ free (take i (objectsIn table)) from) × (to ≡ next quarter (take i (objectsIn table)) from)
 
 abbrev μ-loop : tie.MeasureT-loop
 μ-loop table quarter from n vacant₀ to₀ i₀ vacant to i = n - i
@@ -34,7 +34,7 @@ unfolding free
 loop-again c =
     let l = c .before .before .before .before .before .loop in
     let a = c .before .before .before .before .before .before .before .before .args in
-    let os = heldIn (a .table .now) in
+    let os = objectsIn (a .table .now) in
     let o = c .before .before .before .object-at .ensures in
     let n = c .before .before .before .before .before .before .object-count .ensures .0 in
     let h : l .i < length os = omega arith in (
@@ -49,7 +49,7 @@ returns c =
     let l = c .before .loop in
     let a = c .before .before .before .before .args in
     let n = c .before .before .object-count .ensures .0 in
-    rw (l .inv .1, l .inv .2, take-all (l .i) (heldIn (a .table .now)) (omega arith))
+    rw (l .inv .1, l .inv .2, take-all (l .i) (objectsIn (a .table .now)) (omega arith))
 
 pub run-from-spec : {M : Type 1} → statement M
 run-from-spec =

@@ -1,5 +1,5 @@
 -- `record_rows::record_row` meets its contract: a pick for each row, from the last to the first, is the table's first row.
-use Rattle.lemmas.specs.Rows.{firstRow}
+use Rattle.lemmas.specs.RowTable.{firstRow}
 use Rattle.record_rows.specs.Refusals.{recordRow}
 use Rattle.record_rows.proofs.record_row.Statement.{statement}
 use Rattle.record_rows.proofs.record_row.Tie as tie

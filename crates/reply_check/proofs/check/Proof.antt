@@ -6,12 +6,12 @@ use native.Mathlib.Omega.{arith}
 use lib.ListN.{length, take, drop}
 use borrow.Author.Needs.{needs}
 use Rattle.lemmas.specs.Lists.{part}
-use Rattle.lemmas.specs.Rows.{firstRow}
+use Rattle.lemmas.specs.RowTable.{firstRow}
 use Rattle.rules.specs.Client.{checkRows}
 use Rattle.rules.specs.Operations.{resultLength}
 use Rattle.fields.specs.Records.{requestOf}
 use Rattle.reply_check.specs.Met.{CheckMet}
-use Rattle.reply_check.specs.Laws.{check-end, check-granted, check-refused}
+use Rattle.reply_check.specs.CheckLaws.{check-end, check-granted, check-refused}
 use Rattle.reply_check.proofs.check.Statement.{statement}
 use Rattle.reply_check.proofs.check.Tie as tie
 

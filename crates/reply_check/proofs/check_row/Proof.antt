@@ -9,7 +9,7 @@ use Rattle.rules.specs.declared.Request.{Request}
 use Rattle.rules.specs.Operations.{resultLength}
 use Rattle.fields.specs.Records.{requestOf}
 use Rattle.reply_check.specs.Shape.{wrongShape}
-use Rattle.reply_check.specs.Laws.{earlyRow, check-early, short-result, wrongDigest, check-shape, check-plain, check-sealed, shape-length, sealed-length}
+use Rattle.reply_check.specs.CheckLaws.{earlyRow, check-early, short-result, wrongDigest, check-shape, check-plain, check-sealed, shape-length, sealed-length}
 use Rattle.reply_check.proofs.check_row.Statement.{statement}
 use Rattle.reply_check.proofs.check_row.Tie as tie
 

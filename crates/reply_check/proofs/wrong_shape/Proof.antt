@@ -5,7 +5,7 @@ use lib.ListN.{length}
 use lib.Seq.{length-take-le}
 use borrow.Author.Needs.{needs}
 use Rattle.rules.specs.Operations.{replyLength}
-use Rattle.reply_check.specs.Laws.{shape-other, shape-same, eight-within}
+use Rattle.reply_check.specs.CheckLaws.{shape-other, shape-same, eight-within}
 use Rattle.reply_check.proofs.wrong_shape.Statement.{statement}
 use Rattle.reply_check.proofs.wrong_shape.Tie as tie
 

@@ -9,7 +9,7 @@ use lib.Dec.{leb}
 use lib.Seq.{length-take-le}
 use borrow.Author.Tests.{not-true, not-false, leb-true}
 use Rattle.digest.specs.Hmac.{hmac}
-use Rattle.digest.specs.Laws.{length-hmac}
+use Rattle.digest.specs.DigestLaws.{length-hmac}
 use borrow.Author.Needs.{needs}
 use Rattle.sealed_reply.proofs.seal.Statement.{statement}
 use Rattle.sealed_reply.proofs.seal.Tie as tie

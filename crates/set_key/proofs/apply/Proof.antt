@@ -15,8 +15,8 @@ use Rattle.rules.specs.declared.Operation.the-variants.{Read, Write, Look, Rais
 use Rattle.rules.proofs.Operation.{the-type}
 use Rattle.lemmas.specs.Lists.{part}
 use Rattle.digest.specs.Hmac.{hmac}
-use Rattle.keyring.specs.Keys.{isSet, placeOf, targetOf, keyPutAt}
-use Rattle.keyring.specs.Laws.{set-there}
+use Rattle.keyring.specs.Keys.{isSet, keyIndex, targetIndex, keyStored}
+use Rattle.keyring.specs.KeyLaws.{set-there}
 use Rattle.set_key.specs.Keys.{keysAfter}
 use Rattle.set_key.proofs.apply.Statement.{statement}
 use Rattle.set_key.proofs.apply.Tie as tie
@@ -42,30 +42,30 @@ stays Delete slot p signed ks h = refl
 stays (SetKey a) slot p signed ks h = absurd (not-six h)
 
 -- operation 7, by whether the signing key, key j, is set
-module _ (target slot p j : ℕ) (signed ks : List ℕ) (e : j ≡ placeOf slot p) where
+module _ (target slot p j : ℕ) (signed ks : List ℕ) (e : j ≡ keyIndex slot p) where
   unset : isSet ks j ≡ false → ks ≡ keysAfter (SetKey target) slot p signed ks
   unset h = rw (rw e at h) refl
 
   put : (new s : List ℕ) → isSet ks j ≡ true → new ≡ hmac (take (32 * j + 32 - 32 * j) (drop (32 * j) ks)) signed
-      → s ≡ keyPutAt (targetOf slot p target) new ks → s ≡ keysAfter (SetKey target) slot p signed ks
+      → s ≡ keyStored (targetIndex slot p target) new ks → s ≡ keysAfter (SetKey target) slot p signed ks
   unfolding part
   put new s h n k =
       let c : 32 * j + 32 - 32 * j ≡ 32 = omega arith in
       k ∙ (rw (rw e at h, rw (c, e) at n) refl)
 
 there : (t : tie.Else1) → let a = t .before .before .before .before .before .before .before .before .before .args in
-    isSet (a .keys .now) (t .before .before .before .place-of .result) ≡ true
+    isSet (a .keys .now) (t .before .before .before .key-index .result) ≡ true
 there t = sym (t .before .is-set .ensures) ∙ not-false (t .before .is-set .result) (t .if1 .left)
 
-low : (t : tie.Else1) → t .before .before .before .place-of .result < 14
+low : (t : tie.Else1) → t .before .before .before .key-index .result < 14
 low t =
     let a = t .before .before .before .before .before .before .before .before .before .args in
-    set-there (a .keys .now) (t .before .before .before .place-of .result) (there t) .1
+    set-there (a .keys .now) (t .before .before .before .key-index .result) (there t) .1
 
 long : (t : tie.Else1) → length (t .before .before .before .before .before .before .before .before .before .args .keys .now) ≡ 462
 long t =
     let a = t .before .before .before .before .before .before .before .before .before .args in
-    set-there (a .keys .now) (t .before .before .before .place-of .result) (there t) .0
+    set-there (a .keys .now) (t .before .before .before .key-index .result) (there t) .0
 
 returns : tie.Need-returns
 returns c =
@@ -77,7 +77,7 @@ returns-2 c =
     let f = c .before .before .before in
     let a = f .before .before .before .before .before .before .args in
     let o = f .before .before .o .given in
-    unset (o .0 .0) (a .slot) (a .p) (f .place-of .result) (a .signed .now) (a .keys .now) (f .place-of .ensures)
+    unset (o .0 .0) (a .slot) (a .p) (f .key-index .result) (a .signed .now) (a .keys .now) (f .key-index .ensures)
     (sym (c .before .is-set .ensures) ∙ not-true (c .before .is-set .result) (c .if1 .taken))
     ∙ ap (λ (o : Operation). keysAfter o (a .slot) (a .p) (a .signed .now) (a .keys .now)) (sym (o .1))
 
@@ -88,8 +88,8 @@ returns-3 c =
     let a = f .before .before .before .before .before .before .args in
     let o = f .before .before .o .given in
     let n = c .before .before .before .before .before .of in
-    put (o .0 .0) (a .slot) (a .p) (f .place-of .result) (a .signed .now) (a .keys .now) (f .place-of .ensures) (n .result)
-    (c .before .before .put-key .last .0) (there t) (n .ensures) (c .before .before .put-key .ensures)
+    put (o .0 .0) (a .slot) (a .p) (f .key-index .result) (a .signed .now) (a .keys .now) (f .key-index .ensures) (n .result)
+    (c .before .before .store-key .last .0) (there t) (n .ensures) (c .before .before .store-key .ensures)
     ∙ ap (λ (o : Operation). keysAfter o (a .slot) (a .p) (a .signed .now) (a .keys .now)) (sym (o .1))
 
 pub apply-spec : {M : Type 1} → statement M

@@ -4,7 +4,7 @@ use Prim.Native.Nat.{_-_, _%_, _/_}
 use native.Mathlib.Omega.{arith}
 use lib.ListN.{length, drop}
 use Rattle.sha256_block.specs.Sha256.{blocks}
-use Rattle.sha256_stream.proofs.Stream.{absorbed-short, absorbed-long}
+use Rattle.sha256_stream.proofs.Absorbing.{absorbed-short, absorbed-long}
 use borrow.Author.Needs.{needs}
 use Rattle.sha256_stream.proofs.absorb.Statement.{statement}
 use Rattle.sha256_stream.proofs.absorb.Tie as tie

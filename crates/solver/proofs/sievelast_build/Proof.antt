@@ -1,6 +1,6 @@
 -- The builder's own promise, in numbers.
 use borrow.Author.Needs.{needs}
-use Rattle.solver.specs.Told.{builtOf, spaceAfter}
+use Rattle.solver.specs.Exported.{builtOf, spaceAfter}
 use Rattle.solver.proofs.sievelast_build.Statement.{statement}
 use Rattle.solver.proofs.sievelast_build.Tie as tie
 

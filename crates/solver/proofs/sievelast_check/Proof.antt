@@ -1,6 +1,6 @@
--- The reply check's own promise, in numbers: `told-granted`, `told-refused`.
+-- The reply check's own promise, in numbers: `checked-granted`, `checked-refused`.
 use borrow.Author.Needs.{needs}
-use Rattle.solver.specs.Laws.{told-granted, told-refused}
+use Rattle.solver.specs.CheckedLaws.{checked-granted, checked-refused}
 use Rattle.solver.proofs.sievelast_check.Statement.{statement}
 use Rattle.solver.proofs.sievelast_check.Tie as tie
 
@@ -8,13 +8,13 @@ returns : tie.Need-returns
 returns c =
     let a = c .before .before .before .before .before .before .before .args in
     let k = c .before .check in
-    told-granted (a .credential .now) (a .request .now) (a .key .now) (a .reply .now) (k .last .1 .1 .1 .1 .0) (k .result .now) (k .ensures) (c .if1 .taken)
+    checked-granted (a .credential .now) (a .request .now) (a .key .now) (a .reply .now) (k .last .1 .1 .1 .1 .0) (k .result .now) (k .ensures) (c .if1 .taken)
 
 returns-2 : tie.Need-returns-2
 returns-2 c =
     let a = c .before .before .before .before .before .before .before .before .args in
     let k = c .before .before .check in
-    told-refused (a .credential .now) (a .request .now) (a .key .now) (a .reply .now) (k .last .1 .1 .1 .1 .0) (k .result .now) (k .ensures) (c .before .if1 .left)
+    checked-refused (a .credential .now) (a .request .now) (a .key .now) (a .reply .now) (k .last .1 .1 .1 .1 .0) (k .result .now) (k .ensures) (c .before .if1 .left)
 
 pub sievelast-check-spec : {M : Type 1} → statement M
 sievelast-check-spec =

@@ -10,7 +10,7 @@ use borrow.Author.Needs.{needs}
 use borrow.Author.Tests.{lt-ltb}
 use Rattle.lemmas.specs.Tests.{both}
 use Rattle.lemmas.specs.Loops.{map-took}
-use Rattle.state.specs.Table.{from}
+use Rattle.state.specs.Table.{range}
 use Rattle.soundness.specs.Spans.{endAt, endsOf, narrowAt, each, each-more}
 use Rattle.soundness.proofs.Places.{place-is}
 use Rattle.soundness.proofs.ends_of.Statement.{statement}
@@ -18,7 +18,7 @@ use Rattle.soundness.proofs.ends_of.Tie as tie
 
 abbrev Inv-loop : tie.InvT-loop
 Inv-loop starts sizes r₀ i₀ r i =
-    (i ≤ 16) × (length r ≡ 16) × (take i r ≡ map (endAt starts sizes) (take i (from 0 16))) × (each (narrowAt sizes) i ≡ true)
+    (i ≤ 16) × (length r ≡ 16) × (take i r ≡ map (endAt starts sizes) (take i (range 0 16))) × (each (narrowAt sizes) i ≡ true)
 
 abbrev μ-loop : tie.MeasureT-loop
 μ-loop starts sizes r₀ i₀ r i = 16 - i
@@ -37,7 +37,7 @@ loop-again c =
     let h : l .i < 16 = omega arith in (
       search needs,
       search needs,
-      map-took (endAt starts sizes) (from 0 16) (l .r) (l .i) 0 (c .end-of .result) h (omega arith) (l .inv .2) (e .0 ∙ ap (endAt starts sizes) (sym (place-is (l .i) h))),
+      map-took (endAt starts sizes) (range 0 16) (l .r) (l .i) 0 (c .end-of .result) h (omega arith) (l .inv .2) (e .0 ∙ ap (endAt starts sizes) (sym (place-is (l .i) h))),
       each-more (narrowAt sizes) (l .i) ∙ both (l .inv .3) (lt-ltb (getD sizes (l .i) 0) (2 ^ 32) (e .1)),
     )
 

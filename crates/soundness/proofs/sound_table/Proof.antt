@@ -15,8 +15,8 @@ use Rattle.soundness.proofs.sound_table.Tie as tie
 returns : tie.Need-returns
 returns c = (rw (ne-eqb (length (c .before .before .args .table .now)) 67 (c .if1 .taken)) refl, λ h. absurd (false≢true h))
 
-cast-within : tie.Need-cast-within
-cast-within c = omega (arith, c .shared-slice-known2 .given 2)
+cast-smaller : tie.Need-cast-smaller
+cast-smaller c = omega (arith, c .shared-slice-known2 .given 2)
 
 small-of : (t : tie.Start) → t .args .quarter < 2 ^ 32
 small-of t = search needs
@@ -25,13 +25,13 @@ returns-2 : tie.Need-returns-2
 returns-2 c =
     let clear = c .before .before .before .before .before .before .before in
     let ends = clear .before .before .before .before in
-    let within = ends .before .before .before in
-    let start = within .before .before .before .before in
+    let smaller = ends .before .before .before in
+    let start = smaller .before .before .before .before in
     let a = start .args in
     let t = a .table .now in
     let count = leb (getD t 2 0) 16 in (
       rw (c .all-sound .ensures, clear .all-clear .ensures)
-          (table-sound (a .quarter) (small-of start) t (within .before .before .if1 .left) (ends .ends-of .result) (ends .ends-of .ensures .0) (ends .ends-of .ensures .1) (within .within .result) (within .within .ensures)),
+          (table-sound (a .quarter) (small-of start) t (smaller .before .before .if1 .left) (ends .ends-of .result) (ends .ends-of .ensures .0) (ends .ends-of .ensures .1) (smaller .smaller .result) (smaller .smaller .ensures)),
       λ h. leb-true (getD t 2 0) 16 (and-l count (c .all-sound .result) (and-l (count && c .all-sound .result) (clear .all-clear .result) h)),
     )
 
@@ -39,7 +39,7 @@ pub sound-table-spec : {M : Type 1} → statement M
 sound-table-spec =
     tie.close
     (tie.spec
-    returns (λ c. search needs) cast-within (λ c κs. search needs)
+    returns (λ c. search needs) cast-smaller (λ c κs. search needs)
     (λ c. search needs) (λ c. search needs) (λ c. search needs) (λ c. search needs) (λ c. search needs) (λ c. search needs) (λ c κs. search needs)
     (λ c. search needs) (λ c. search needs) (λ c. search needs) (λ c. search needs) (λ c. search needs) (λ c. search needs) (λ c. search needs) (λ c κs. search needs)
     (λ c. search needs)

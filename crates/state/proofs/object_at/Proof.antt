@@ -1,12 +1,12 @@
--- Past the last there is none; before it the four numbers of the place (held-at).
+-- Past the last there is none; before it the four numbers of the place (objects-at).
 use mathlib.Core.Path.{_≡_, sym}
 use Prim.Native.Nat.{_<_}
 use native.Mathlib.Omega.{arith}
 use lib.ListN.{length, List·getD-eq-default}
 use borrow.Author.Needs.{needs}
 use Rattle.rules.specs.Operations.{noObject}
-use Rattle.state.specs.Table.{heldIn, objectAt}
-use Rattle.state.specs.Places.{held-at, held-table}
+use Rattle.state.specs.Table.{objectsIn, objectAt}
+use Rattle.state.specs.Places.{objects-at, objects-table}
 use Rattle.state.proofs.object_at.Statement.{statement}
 use Rattle.state.proofs.object_at.Tie as tie
 
@@ -14,16 +14,16 @@ returns : tie.Need-returns
 returns c =
     let a = c .before .before .before .args in
     let n = c .before .object-count .ensures .0 in
-    sym (List·getD-eq-default (heldIn (a .table .now)) noObject {n = a .i} (omega arith))
+    sym (List·getD-eq-default (objectsIn (a .table .now)) noObject {n = a .i} (omega arith))
 
 -- before the last, and so in a table
 inside : (t : tie.Else1) → let a = t .before .before .before .args in
-    (a .i < length (heldIn (a .table .now))) × (a .i < 16) × (length (a .table .now) ≡ 67)
+    (a .i < length (objectsIn (a .table .now))) × (a .i < 16) × (length (a .table .now) ≡ 67)
 inside t =
     let a = t .before .before .before .args in
     let n = t .before .object-count .ensures in
-    let h : a .i < length (heldIn (a .table .now)) = omega arith in
-    (h, omega arith, held-table (a .table .now) (omega arith))
+    let h : a .i < length (objectsIn (a .table .now)) = omega arith in
+    (h, omega arith, objects-table (a .table .now) (omega arith))
 
 shared-slice-read-t7 : tie.Need-shared-slice-read-t7
 shared-slice-read-t7 c = omega (arith, inside (c .before))
@@ -41,7 +41,7 @@ returns-2 : tie.Need-returns-2
 unfolding objectAt
 returns-2 c =
     let a = c .before .before .before .before .before .before .before .args in
-    sym (held-at (a .table .now) (a .i) (inside (c .before .before .before .before) .0))
+    sym (objects-at (a .table .now) (a .i) (inside (c .before .before .before .before) .0))
 
 pub object-at-spec : {M : Type 1} → statement M
 object-at-spec =

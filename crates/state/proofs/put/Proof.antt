@@ -1,8 +1,8 @@
--- Four stores, one object (became-stored).
+-- Four stores, one object (content-stored).
 use native.Mathlib.Omega.{arith}
 use lib.ListN.{length-set}
 use borrow.Author.Needs.{needs}
-use Rattle.state.specs.Steps.{became-stored}
+use Rattle.state.specs.Steps.{content-stored}
 use Rattle.state.proofs.put.Statement.{statement}
 use Rattle.state.proofs.put.Tie as tie
 
@@ -16,7 +16,7 @@ slice-write-table-4 : tie.Need-slice-write-table-4
 slice-write-table-4 c = simp length-set (omega arith)
 
 returns : tie.Need-returns
-returns c = became-stored (c .args .table .now) (c .args .i) (c .args .o) (c .pre .0) (c .pre .1)
+returns c = content-stored (c .args .table .now) (c .args .i) (c .args .o) (c .pre .0) (c .pre .1)
 
 pub put-spec : {M : Type 1} → statement M
 put-spec =

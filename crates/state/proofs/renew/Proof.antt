@@ -8,26 +8,26 @@ use borrow.Author.Needs.{needs}
 use Rattle.lemmas.specs.Lists.{change}
 use Rattle.rules.specs.declared.Object.{Object}
 use Rattle.rules.specs.Operations.{withVersion}
-use Rattle.state.specs.Table.{heldIn}
-use Rattle.state.specs.Changes.{Became, frontedIn}
-use Rattle.state.specs.Steps.{became-same, renewed-one, renewed-none}
+use Rattle.state.specs.Table.{objectsIn}
+use Rattle.state.specs.Changes.{HasContent, contentWithFront}
+use Rattle.state.specs.Steps.{content-same, renewed-one, renewed-none}
 use Rattle.state.proofs.renew.Statement.{statement}
 use Rattle.state.proofs.renew.Tie as tie
 
 abbrev Inv-loop : tie.InvT-loop
 Inv-loop table₀ number version n i₀ table i =
-    (i ≤ n) × (Became table₀ table (frontedIn (change Object.number number (withVersion version) (take i (heldIn table₀))) table₀))
+    (i ≤ n) × (HasContent table₀ table (contentWithFront (change Object.number number (withVersion version) (take i (objectsIn table₀))) table₀))
 
 abbrev μ-loop : tie.MeasureT-loop
 μ-loop table₀ number version n i₀ table i = n - i
 
 loop-holds : tie.Need-loop-holds Inv-loop μ-loop
 unfolding change
-loop-holds c = (search needs, became-same (c .before .before .before .args .table .now))
+loop-holds c = (search needs, content-same (c .before .before .before .args .table .now))
 
 -- the table is as long as it was, and place i is an object's
 inside : (c : tie.In-loop Inv-loop μ-loop) → (length (c .before .loop .table) ≡ 67) × (c .before .loop .i < 16)
-    × (c .before .loop .i < length (heldIn (c .before .before .before .before .before .args .table .now)))
+    × (c .before .loop .i < length (objectsIn (c .before .before .before .before .before .args .table .now)))
 inside c =
     let l = c .before .loop .inv .1 .long in
     let n = c .before .before .object-count .ensures in
@@ -65,7 +65,7 @@ returns c =
     let l = c .before .loop in
     let t = c .before .before .before .before .before .args .table .now in
     let n = c .before .before .object-count .ensures in
-    rw (take-all (l .i) (heldIn t) (omega arith)) at (l .inv .1)
+    rw (take-all (l .i) (objectsIn t) (omega arith)) at (l .inv .1)
 
 pub renew-spec : {M : Type 1} → statement M
 renew-spec =

@@ -1,10 +1,10 @@
 -- `wire::numbers` meets its contract.
-use Rattle.wire.specs.Parse.{requestTold}
+use Rattle.wire.specs.Parse.{numbersOf}
 use Rattle.wire.proofs.numbers.Statement.{statement}
 use Rattle.wire.proofs.numbers.Tie as tie
 
 returns : tie.Need-returns
-unfolding requestTold
+unfolding numbersOf
 returns c =
     rw (
       c .second-number .ensures,

@@ -3,9 +3,9 @@ use mathlib.Core.Path.{refl}
 use mathlib.Core.Bool.{not}
 use lib.Dec.{eqb}
 use borrow.Author.Needs.{needs}
-use Rattle.lemmas.specs.Rows.{firstRow}
-use Rattle.client.specs.Rows.{buildRow}
-use Rattle.record_rows.specs.Laws.{bad-either}
+use Rattle.lemmas.specs.RowTable.{firstRow}
+use Rattle.client.specs.ClientRows.{buildRow}
+use Rattle.record_rows.specs.BadRecords.{bad-either}
 use Rattle.client.proofs.rows.build_row.Statement.{statement}
 use Rattle.client.proofs.rows.build_row.Tie as tie
 

@@ -1,8 +1,8 @@
 -- Three rows, the last first.
 use mathlib.Core.Path.{refl}
 use borrow.Author.Needs.{needs}
-use Rattle.lemmas.specs.Rows.{firstRow}
-use Rattle.client.specs.Rows.{issueRow}
+use Rattle.lemmas.specs.RowTable.{firstRow}
+use Rattle.client.specs.ClientRows.{issueRow}
 use Rattle.client.proofs.rows.issue_row.Statement.{statement}
 use Rattle.client.proofs.rows.issue_row.Tie as tie
 

@@ -2,7 +2,7 @@
 use mathlib.Core.Path.{_≡_}
 use lib.ListN.{length}
 use borrow.Author.Needs.{needs}
-use Rattle.client.specs.Laws.{four-parts}
+use Rattle.client.specs.ClientLaws.{four-parts}
 use Rattle.client.proofs.rows.join.Statement.{statement}
 use Rattle.client.proofs.rows.join.Tie as tie
 

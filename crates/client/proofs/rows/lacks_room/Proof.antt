@@ -1,5 +1,5 @@
 -- By the two differences: `room-short`, `room-rest`.
-use Rattle.client.specs.Laws.{room-short, room-rest}
+use Rattle.client.specs.ClientLaws.{room-short, room-rest}
 use mathlib.Core.Path.{sym}
 use borrow.Author.Needs.{needs}
 use Rattle.client.proofs.rows.lacks_room.Statement.{statement}

@@ -7,8 +7,8 @@ use lib.ListN.{length, getD}
 use Rattle.lemmas.specs.Lists.{keep}
 use Rattle.rules.specs.declared.Entry.{Entry}
 use Rattle.rules.specs.Drive.{lives, mostEntries}
-use Rattle.memory.specs.Memory.{entries}
-use Rattle.drive.specs.View.{memoriesIn, Placed}
+use Rattle.memory.specs.Memory.{entriesIn}
+use Rattle.drive.specs.View.{memoriesIn, MemoriesFit}
 use Rattle.drive.proofs.Turned.{turned, turned-all, turn}
 use Rattle.drive.proofs.Memories.{memories-length, short-at, purged-at, placed-still}
 use borrow.Author.Needs.{needs}
@@ -17,8 +17,8 @@ use Rattle.drive.proofs.replay.drop_outlived.Tie as tie
 
 abbrev Inv-loop : tie.InvT-loop
 Inv-loop lengths₀ slots₀ holders₀ times₀ counts₀ mark m₀ lengths slots holders times counts m =
-    (m ≤ 5) × Placed lengths slots holders times counts
-    × (memoriesIn lengths (entries slots holders times counts) ≡ turned (keep (lives mark)) m (memoriesIn lengths₀ (entries slots₀ holders₀ times₀ counts₀)))
+    (m ≤ 5) × MemoriesFit lengths slots holders times counts
+    × (memoriesIn lengths (entriesIn slots holders times counts) ≡ turned (keep (lives mark)) m (memoriesIn lengths₀ (entriesIn slots₀ holders₀ times₀ counts₀)))
 
 abbrev μ-loop : tie.MeasureT-loop
 μ-loop lengths₀ slots₀ holders₀ times₀ counts₀ mark m₀ lengths slots holders times counts m = 5 - m
@@ -91,9 +91,9 @@ loop-again c =
     let p = c .before .before .before .before .before .before .before .before .purge in
     let size : ℕ = 64 * l .m + getD (l .lengths) (l .m) 0 - 64 * l .m in
     let whole : size ≡ getD (l .lengths) (l .m) 0 = omega arith in
-    let old : List (List Entry) = memoriesIn (a .lengths .now) (entries (a .slots .now) (a .holders .now) (a .times .now) (a .counts .now)) in
-    let five : length old ≡ 5 = memories-length (a .lengths .now) (entries (a .slots .now) (a .holders .now) (a .times .now) (a .counts .now)) ∙ w .five in
-    let now : List (List Entry) = memoriesIn (l .lengths) (entries (l .slots) (l .holders) (l .times) (l .counts)) in (
+    let old : List (List Entry) = memoriesIn (a .lengths .now) (entriesIn (a .slots .now) (a .holders .now) (a .times .now) (a .counts .now)) in
+    let five : length old ≡ 5 = memories-length (a .lengths .now) (entriesIn (a .slots .now) (a .holders .now) (a .times .now) (a .counts .now)) ∙ w .five in
+    let now : List (List Entry) = memoriesIn (l .lengths) (entriesIn (l .slots) (l .holders) (l .times) (l .counts)) in (
       omega (arith, h .0),
       placed-still (l .lengths) (l .slots) (l .holders) (l .times) (l .counts) (l .inv .1) (l .m) (h .0) (a .mark) size (p .result) whole (p .last .0) (p .last .1 .0) (p .last .1 .1 .0) (p .last .1 .1 .1 .0) (p .ensures),
       purged-at (l .lengths) (l .slots) (l .holders) (l .times) (l .counts) (l .inv .1) (l .m) (h .0) (a .mark) size (p .result) whole (p .last .0) (p .last .1 .0) (p .last .1 .1 .0) (p .last .1 .1 .1 .0) (p .ensures)
@@ -105,8 +105,8 @@ returns c =
     let l = c .before .loop in
     let a = c .before .before .before .before .before .before .before .args in
     let w = c .before .before .before .before .before .before .before .pre in
-    let old : List (List Entry) = memoriesIn (a .lengths .now) (entries (a .slots .now) (a .holders .now) (a .times .now) (a .counts .now)) in
-    let five : length old ≡ 5 = memories-length (a .lengths .now) (entries (a .slots .now) (a .holders .now) (a .times .now) (a .counts .now)) ∙ w .five in
+    let old : List (List Entry) = memoriesIn (a .lengths .now) (entriesIn (a .slots .now) (a .holders .now) (a .times .now) (a .counts .now)) in
+    let five : length old ≡ 5 = memories-length (a .lengths .now) (entriesIn (a .slots .now) (a .holders .now) (a .times .now) (a .counts .now)) ∙ w .five in
     (l .inv .2 ∙ turned-all (keep (lives (a .mark))) (l .m) old (omega arith), l .inv .1)
 
 pub drop-outlived-spec : {M : Type 1} → statement M

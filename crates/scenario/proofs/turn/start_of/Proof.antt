@@ -7,8 +7,8 @@ use borrow.Author.Needs.{needs}
 use Rattle.scenario.proofs.turn.start_of.Statement.{statement}
 use Rattle.scenario.proofs.turn.start_of.Tie as tie
 
-slice-aggregate-named : tie.Need-slice-aggregate-named
-slice-aggregate-named c =
+slice-aggregate-look-up : tie.Need-slice-aggregate-look-up
+slice-aggregate-look-up c =
     let t = c .before .args .t1 in
     let long : length t ≡ 268 = search needs in
     sym (length-take-le 67 t (omega arith))
@@ -17,5 +17,5 @@ pub start-of-spec : {M : Type 1} → statement M
 start-of-spec =
     tie.close
     (tie.spec
-    (λ c. search needs) slice-aggregate-named (λ c κs. search needs) (λ c. search needs) (λ c. search needs)
+    (λ c. search needs) slice-aggregate-look-up (λ c κs. search needs) (λ c. search needs) (λ c. search needs)
     (λ c. search needs))

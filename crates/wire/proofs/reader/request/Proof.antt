@@ -42,7 +42,7 @@ use denote.Triple.Walked.{says, needs, Stays, stay-none, walkOf, goes-none, Walk
 use denote.Exit.{yes}
 use denote.Triple.Clauses.{ensured, lasts}
 use Rattle.rules.specs.Frame.{requestAt}
-use Rattle.wire.specs.Parse.{told, toldOf}
+use Rattle.wire.specs.Parse.{answerOf, recordsAnswer}
 use Rattle.wire.specs.declared.reader.Reader.{Reader}
 use Rattle.rules.specs.declared.Credential.{Credential as Cred}
 use Rattle.wire.specs.declared.Parsed.{Parsed}
@@ -90,7 +90,7 @@ module _ {M : Type 1} (𝓤 : URA M) (H : Heap 𝓤) (A : Atoms 𝓤) (W : Given
 
   -- what is said of the result
   abbrev Said : Parsed → Type 0
-  Said r = told r ≡ toldOf c (requestAt (now (d .src)) (d .at)) (length (now (d .src)))
+  Said r = answerOf r ≡ recordsAnswer c (requestAt (now (d .src)) (d .at)) (length (now (d .src)))
 
   abbrev Post : Val → SProp 𝓤
   Post = walkOf 𝓤 H A request.ended stayed (request.clauses 𝓤 H A mem run) .post (((κ, tt), (q, tt), tt, (d, (c, tt)), vals), tt)

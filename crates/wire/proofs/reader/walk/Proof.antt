@@ -40,7 +40,7 @@ use denote.Triple.Walked.{says, Stays, stay-none-slice, walkOf, goes-none-slice,
 use denote.Exit.{yes}
 use denote.Triple.Clauses.{ensured, lasts}
 use Rattle.rules.specs.Frame.{credentialAt, requestAt}
-use Rattle.wire.specs.Parse.{told, toldOf}
+use Rattle.wire.specs.Parse.{answerOf, recordsAnswer}
 use Rattle.wire.specs.declared.reader.Reader.{Reader}
 use Rattle.rules.specs.declared.Credential.{Credential as Cred}
 use Rattle.wire.specs.declared.Parsed.{Parsed}
@@ -109,7 +109,7 @@ module _ {M : Type 1} (𝓤 : URA M) (H : Heap 𝓤) (A : Atoms 𝓤) (W : Given
 
   -- what is said of the result
   abbrev Said : Parsed → Type 0
-  Said p = told p ≡ toldOf cr (requestAt (now s) 36) (length (now s))
+  Said p = answerOf p ≡ recordsAnswer cr (requestAt (now s) 36) (length (now s))
 
   within₀ : 0 + 36 ≤ length (now s)
   within₀ = omega (arith, long)

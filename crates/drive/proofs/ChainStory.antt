@@ -1,0 +1,49 @@
+-- The customer's story over the code's own contract: the rules' own on the same calls, and demand 3's reads.
+use mathlib.Core.Path.{_∙_, ap, subst, sym}
+use mathlib.Core.List.{[], _++_, _∷_, append-assoc, append-nil, List, map}
+use Prim.Native.Nat.{ℕ}
+use lib.ListN.{length}
+use Rattle.lemmas.specs.ListLaws.{map-append}
+use Rattle.lemmas.specs.Lists.{part}
+use Rattle.rules.specs.Demands.{callFields, bytesOf, fed, State}
+use Rattle.rules.specs.Ledger.{Fed, Ledger, ledger, ledgerStart}
+use Rattle.rules.specs.Story.{OfEveryList, OneLog, VersionsOnce}
+use Rattle.rules.proofs.OneLog.{one-log, versions-once}
+use Rattle.drive.specs.declared.Formatted.{Formatted}
+use Rattle.drive.specs.Chain.{Chain, CallMade, fedBy, DriveState, MadeFromFormat}
+use Rattle.drive.specs.ChainStory.{AllOfStory}
+use Rattle.drive.proofs.Calls.{callsOf, chain-fed, formatted}
+use Rattle.drive.proofs.Demand3.{demand3}
+
+-- a claim on what the rules' gate feeds the ledger is one on what the code feeds it
+fed-claim : (Claim : ℕ → Ledger → List Fed → Type 0) → OfEveryList Claim
+    → (medium : List ℕ) (F : ℕ) (master key : List ℕ) (r : Formatted) (zeroed : List ℕ) (calls : List CallMade)
+    → MadeFromFormat medium F master key r zeroed calls
+    → Claim (length medium) (ledgerStart F master key) (map fedBy calls)
+fed-claim Claim all medium F master key r zeroed calls made =
+    subst (Claim (length medium) (ledgerStart F master key))
+    (ap (λ (s : State). fed s (callsOf calls)) (formatted medium F master key r zeroed (made .format))
+    ∙ chain-fed first calls [] (subst (Chain first) (sym (append-nil calls)) (made .chain)))
+    (all medium F master key (callsOf calls) (sym (made .format .row) ∙ made .row))
+  where
+    first : DriveState
+    first = record { drive = r .drive; medium = zeroed }
+
+pub story : AllOfStory
+story medium F master key r zeroed calls made = record {
+  versions = fed-claim VersionsOnce versions-once medium F master key r zeroed calls made;
+  oneLog = one;
+  shown = λ before between later c d p n v A B e uc ud o.
+      demand3 medium F master key r zeroed calls made .shown (before ++ (c ∷ between)) later d A B
+      (e ∙ sym (append-assoc before (c ∷ between) (d ∷ later))) (ud .granted) o
+      ∙ ap (λ (b : List ℕ). part b A B)
+      (ap (λ (f : List Fed). bytesOf (ledger (length medium) (ledgerStart F master key) f) (callFields (d .call)))
+      (map-append fedBy before (c ∷ between))
+      ∙ one .bytes (map fedBy before) (map fedBy between) (map fedBy later) (fedBy c) (fedBy d) p n v
+      (ap (map fedBy) e ∙ map-append fedBy before (c ∷ (between ++ (d ∷ later)))
+      ∙ ap (λ (f : List Fed). map fedBy before ++ (fedBy c ∷ f)) (map-append fedBy between (d ∷ later)))
+      uc ud);
+}
+  where
+    one : OneLog (length medium) (ledgerStart F master key) (map fedBy calls)
+    one = fed-claim OneLog one-log medium F master key r zeroed calls made

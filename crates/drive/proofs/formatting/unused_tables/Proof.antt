@@ -1,0 +1,19 @@
+-- No object is told of: by computation.
+use mathlib.Core.Path.{refl}
+use borrow.Author.Needs.{needs}
+use Rattle.state.specs.Padded.{padded}
+use Rattle.state.specs.Table.{partitionView}
+use Rattle.drive.specs.View.{tablesIn}
+use Rattle.drive.proofs.formatting.unused_tables.Statement.{statement}
+use Rattle.drive.proofs.formatting.unused_tables.Tie as tie
+
+returns : tie.Need-returns
+unfolding partitionView padded tablesIn
+returns c = refl
+
+pub unused-tables-spec : {M : Type 1} → statement M
+unused-tables-spec =
+    tie.close
+    (tie.spec
+    (λ c. search needs) (λ c. search needs) (λ c. search needs) (λ c. search needs) (λ c. search needs) (λ c. search needs)
+    (λ c. search needs) (λ c. search needs) returns)

@@ -1,0 +1,37 @@
+-- The customer's story, "The shape I read belongs to one log", over the code's own contract: of any calls of format
+-- and gate that keep their promises. Proved in proofs/: `story`.
+-- c, d: calls made. p: a partition. n: an object's number. v: a version. l: a ledger. M: the medium's size.
+use mathlib.Core.Path.{_≡_}
+use mathlib.Core.List.{_++_, _∷_, List, map}
+use Prim.Native.Nat.{ℕ}
+use lib.ListN.{length}
+use Rattle.lemmas.specs.Lists.{part}
+use Rattle.rules.specs.Demands.{callFields, bytesOf, callOperation}
+use Rattle.rules.specs.declared.Operation.the-variants.{Read}
+use Rattle.rules.specs.Ledger.{Ledger, ledgerStart}
+use Rattle.rules.specs.Operations.{headSize}
+use Rattle.rules.specs.Story.{OneLog, rewritten, Uses, VersionsOnce}
+use Rattle.drive.specs.declared.Formatted.{Formatted}
+use Rattle.drive.specs.Chain.{ledgerAfterCalls, CallMade, fedBy, MadeFromFormat}
+
+pub record Story (M : ℕ) (l : Ledger) (calls : List CallMade) : Type 0 where
+  -- "Each partition gives versions F, F + 1, .. of its own, each once."
+  pub versions : VersionsOnce M l (map fedBy calls)
+  -- "The shape I read belongs to one log." Where two granted uses c and d name one object and one version, no grant
+  -- between them raised, deleted or created it, and every use between them was under that same version
+  pub oneLog : OneLog M l (map fedBy calls)
+  -- and what d reads is what c found, changed by the granted writes since c and by nothing else
+  pub shown : (before between later : List CallMade) (c d : CallMade) (p n v A B : ℕ)
+      → calls ≡ before ++ (c ∷ (between ++ (d ∷ later)))
+      → Uses p n v (fedBy c)
+      → Uses p n v (fedBy d)
+      → callOperation (d .call) ≡ Read A B
+      → part (d .space) headSize B
+      ≡ part (rewritten p n (map fedBy (c ∷ between)) (bytesOf (ledgerAfterCalls M l before) (callFields (c .call)))) A B
+
+-- for every format that returned row 0 and every list of calls
+abbrev pub AllOfStory : Type 0
+AllOfStory =
+    (medium : List ℕ) (F : ℕ) (master key : List ℕ) (r : Formatted) (zeroed : List ℕ) (calls : List CallMade)
+    → MadeFromFormat medium F master key r zeroed calls
+    → Story (length medium) (ledgerStart F master key) calls

@@ -1,0 +1,56 @@
+// Format: rows 24 to 26, and a drive in which nothing is.
+ghost use mathlib.Core.Path.{_≡_};
+ghost use mathlib.Core.Bool.{_||_};
+ghost use mathlib.Core.List.{[], _∷_, map};
+ghost use lib.ListN.{replicate};
+ghost use Rattle.lemmas.specs.Tests.{_over_, _is_, _isnt_};
+ghost use Rattle.lemmas.specs.RowTable.{line, firstRow};
+ghost use Rattle.rules.specs.Drive.{largestMedium, emptyPartition, newDrive};
+ghost use Rattle.keyring.specs.Keys.{keysIn};
+ghost use Rattle.state.specs.Table.{partitionView};
+ghost use Rattle.drive.specs.View.{view, tablesIn};
+use super::Drive;
+
+// Row 24, 25 or 26, or 0 where none applies: of the lengths of the medium and of the keys lent, and the first version.
+pub fn format_row(size: usize, first: u32, master: usize, key: usize) -> u32
+    ensures { λ r. ⌜ r ≡ firstRow (line 24 (size over largestMedium) ∷ line 25 (first is 0) ∷ line 26 (master isnt 32 || key isnt 32) ∷ []) ⌝ }
+{
+    let r26 = lemmas::pick((master != 32) | (key != 32), 26, 0);
+    let r25 = lemmas::pick(first == 0, 25, r26);
+    lemmas::pick(size > 16777216, 24, r25)
+}
+
+// The tables of four partitions that have nothing.
+fn unused_tables(first: u32) -> [u32; 268]
+    ensures { λ r. ⌜ map partitionView (tablesIn 4 r) ≡ replicate 4 (emptyPartition first) ⌝ }
+{
+    let mut r = [0u32; 268];
+    r[0] = first;
+    r[1] = first;
+    r[67] = first;
+    r[68] = first;
+    r[134] = first;
+    r[135] = first;
+    r[201] = first;
+    r[202] = first;
+    r
+}
+
+// The drive of a medium of so many bytes with these keys: no object exists, each partition's version is the first, the mark
+// is 0.
+pub fn new_drive(size: usize, first: u32, keys: [u8; 462]) -> Drive
+    ensures { λ r. ⌜ view r ≡ newDrive size (record { highWater = 0; keys = keysIn keys; partitions = replicate 4 (emptyPartition first) }) ⌝ }
+{
+    let tables = unused_tables(first);
+    Drive {
+        size,
+        highwater: 0,
+        keys,
+        tables,
+        lengths: [0; 5],
+        slots: [0; 320],
+        holders: [0; 320],
+        times: [0; 320],
+        counts: [0; 320],
+    }
+}
