@@ -97,9 +97,9 @@ pub record Demand3 (M : ℕ) (s : DriveState) (l : Ledger) (calls : List CallMad
       → Granted b
       → Granted c
       → nonce (b .call) ≡ nonce (c .call) → ⊥
-  -- "Each grant is within its credential's rights, expiry and .. range. It is under the key and .. the version that
-  -- the format or earlier grants put there": rows 8–10 and 13–17, by the ledger before the call with the mark that
-  -- this call sets
+  -- "Each grant is within its credential's rights, expiry and .. range. It is under the key and .. the version
+  -- that the format or earlier grants put there": rows 8–10 and 13–17, by the ledger before the call with the mark
+  -- that this call sets
   pub kept : (before later : List CallMade) (c : CallMade)
       → calls ≡ before ++ (c ∷ later)
       → Granted c

@@ -1,7 +1,6 @@
--- Document 01, operation 5: where a new area (extent) starts. In the document's words, and as a computation beside
--- them;
--- that both agree, over any step from 1, is proved in proofs/Gaps.antt. q: the quarter. Starts count from the
--- quarter's start.
+-- Document 01, operation 5: where a new area (extent) starts, in the document's words and as a computation; that both
+-- agree, over any step from 1, is proved in proofs/Gaps.antt and proofs/Placing.antt.
+-- q: the quarter. Starts count from the quarter's start.
 use mathlib.Core.Bool.{Bool, _&&_, _||_, cond}
 use mathlib.Core.Option.{Option, none, some, Option·map}
 use mathlib.Core.Path.{_≡_}
@@ -67,8 +66,7 @@ unfoldable pub next : ℕ → List Object → ℕ → ℕ
 next q [] i = q
 next q (a ∷ objects) i = next (nearer i q a) objects i
 
--- a gap starts at the quarter's start or where an area ends, at a byte that is in no area, and runs up to the next
--- area
+-- a gap starts at the quarter's start or where an area ends, at a byte that is in no area, and ends at the next area
 abbrev pub gapFrom : ℕ → List Object → ℕ → Gap
 gapFrom q objects i = record { from = i; to = next q objects i }
 

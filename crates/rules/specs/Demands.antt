@@ -1,6 +1,6 @@
--- The customer's demands 1 and 3, as statements about the gate of Gate.antt and the ledger of Ledger.antt.
--- Proved in proofs/: `exact`, `demand1`, `demand3`. d: a drive. m: a medium. c: a call. s: drive and medium. l: a
--- ledger.
+-- The customer's demands 1 to 3, as statements about the gate of Gate.antt and the ledger of Ledger.antt.
+-- Proved in proofs/: `exact`, `demand1`, `reads-back`, `replies-back`, `demand3`.
+-- d: a drive. m: a medium. c: a call. s: drive and medium. l: a ledger.
 use mathlib.Core.Path.{_≡_}
 use mathlib.Core.Logic.{_↔_, _⊎_}
 use mathlib.Core.Bool.{true}
@@ -179,24 +179,22 @@ pub record Demand3 (M : ℕ) (s : State) (l : Ledger) (calls : List Call) : Type
       → Granted s before c
       → Granted s (before ++ (c ∷ between)) d
       → nonce c ≡ nonce d → ⊥
-  -- "Each grant is within its credential's rights, expiry and .. range. It is under the key and .. the version that
-  -- the format or
-  -- earlier grants put there": rows 8–10 and 13–17, by the ledger before the call with the mark that this call sets
+  -- "Each grant is within its credential's rights, expiry and .. range. It is under the key and .. the version
+  -- that the format or earlier grants put there": rows 8–10 and 13–17, by the ledger before the call with the mark
+  -- that this call sets
   pub kept : (before later : List Call) (c : Call)
       → calls ≡ before ++ (c ∷ later)
       → Granted s before c
       → firstRow (bounds (bareScope (ledgerScope M (clocked (c .clock) (ledgerAfterCalls M s l before)) (callFields c .cred))) (callFields c)) ≡ 0
-  -- "Each granted read shows, for every byte, exactly the last granted write to it since that object's creation, or
-  -- zero":
-  -- after the reply's head, the bytes from A up to A + B of the ledger's object
+  -- "Each granted read shows, for every byte, exactly the last granted write to it since that object's creation,
+  -- or zero": after the reply's head, the bytes from A up to A + B of the ledger's object
   pub shown : (before later : List Call) (c : Call) (A B : ℕ)
       → calls ≡ before ++ (c ∷ later)
       → Granted s before c
       → callOperation c ≡ Read A B
       → part (answer (after s before) c .space) headSize B ≡ part (bytesOf (ledgerAfterCalls M s l before) (callFields c)) A B
-  -- "After every call the drive holds exactly the objects that the grants so far left, their areas disjoint and each
-  -- inside its
-  -- own partition."
+  -- "After every call the drive holds exactly the objects that the grants so far left,
+  -- their areas disjoint and each inside its own partition."
   pub agrees : (before later : List Call) → calls ≡ before ++ later → Agrees M (after s before) (ledgerAfterCalls M s l before)
 
 -- for every format that returned row 0 and every list of calls

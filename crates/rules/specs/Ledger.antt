@@ -70,9 +70,8 @@ ledgerRaised n p =
     partitionWith (cond (n is 0) v (p .version)) v (cond (n is 0) (p .objects)
     (change numberOf n (ledgerWithVersion v) (p .objects))) p
 
--- "5: last given rises by one; object A joins, with it as version, the area that operation 5 finds among the
--- partition's
--- areas in the ledger, and B zero bytes."
+-- "5: last given rises by one; object A joins, with it as version,
+-- the area that operation 5 finds among the partition's areas in the ledger, and B zero bytes."
 unfoldable pub ledgerCreated : ℕ → ℕ → ℕ → Partition LedgerObject → Partition LedgerObject
 ledgerCreated number size ledgerStart p =
     let v = nextVersion p in

@@ -108,43 +108,36 @@ withDriveKey new k = record {
   master = k .master;
   drive = some new;
   partition = k .partition;
-  working0 =
-      k .working0;
+  working0 = k .working0;
   working1 = k .working1;
 }
 
 abbrev pub withPartitionKey : ℕ → List ℕ → Keys → Keys
-withPartitionKey p new k =
-    record {
-      master = k .master;
-      drive = k .drive;
-      partition = setAt p new (k .partition);
-      working0 =
-          k .working0;
-      working1 = k .working1;
-    }
+withPartitionKey p new k = record {
+  master = k .master;
+  drive = k .drive;
+  partition = setAt p new (k .partition);
+  working0 = k .working0;
+  working1 = k .working1;
+}
 
 abbrev pub withWorking0 : ℕ → List ℕ → Keys → Keys
-withWorking0 p new k =
-    record {
-      master = k .master;
-      drive = k .drive;
-      partition = k .partition;
-      working0 =
-          setAt p new (k .working0);
-      working1 = k .working1;
-    }
+withWorking0 p new k = record {
+  master = k .master;
+  drive = k .drive;
+  partition = k .partition;
+  working0 = setAt p new (k .working0);
+  working1 = k .working1;
+}
 
 abbrev pub withWorking1 : ℕ → List ℕ → Keys → Keys
-withWorking1 p new k =
-    record {
-      master = k .master;
-      drive = k .drive;
-      partition = k .partition;
-      working0 = k .working0;
-      working1 =
-          setAt p new (k .working1);
-    }
+withWorking1 p new k = record {
+  master = k .master;
+  drive = k .drive;
+  partition = k .partition;
+  working0 = k .working0;
+  working1 = setAt p new (k .working1);
+}
 
 unfoldable pub keyPut : ℕ → ℕ → ℕ → List ℕ → Keys → Keys
 keyPut slot partition A new k =

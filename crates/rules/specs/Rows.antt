@@ -1,5 +1,4 @@
--- Document 01, "Why the drive says no", rows 1 to 23: each row's test under the document's words, then all as one
--- table.
+-- Document 01, "Why the drive says no", rows 1 to 23: each row's test under the document's words, then one table.
 -- f: the frame. c, r: the numbers of its credential and request. x: its fields. s: its scope.
 use mathlib.Core.Bool.{Bool, not, _&&_, _||_, cond}
 use mathlib.Core.List.{List, [], _∷_, _++_}
@@ -58,8 +57,8 @@ outsideRequest r = any (requestFaults r)
 abbrev pub row4 : Credential → Request → Bool
 row4 c r = outsideCredential c || outsideRequest r
 
--- 5. "n is not 0 for operations 1 and 3–6, B for 2, 16 for 7, or the frame is not as long as its parts together, 96
--- + n bytes."
+-- 5. "n is not 0 for operations 1 and 3–6, B for 2, 16 for 7,
+-- or the frame is not as long as its parts together, 96 + n bytes."
 abbrev pub dataLength : Request → ℕ
 dataLength r = cond (r .operation is 2) (r .B) (cond (r .operation is 7) 16 0)
 
@@ -69,9 +68,10 @@ wrongData r = r .n isnt dataLength r
 abbrev pub row5 : Request → List ℕ → Bool
 row5 r f = wrongData r || length f isnt leastFrame + r .n
 
--- 6. "Operation misfits: 1–6 with slot over 1; 7 with slot under 2 or version not 0; 1, 2, 6 on object 0; 5, 7
--- elsewhere;
--- 3, 4, 6 with A or B not 0; 5 with A or B 0; 7 with B not 0, or A over 1, 3, 0 for slots 2, 3, 4."
+-- 6. "Operation misfits: 1–6 with slot over 1; 7 with slot under 2 or version not 0;
+-- 1, 2, 6 on object 0; 5, 7 elsewhere;
+-- 3, 4, 6 with A or B not 0; 5 with A or B 0;
+-- 7 with B not 0, or A over 1, 3, 0 for slots 2, 3, 4."
 abbrev pub misfits : Credential → Request → List Bool
 misfits c r =
     (r .operation under 7 && c .slot over 1)
