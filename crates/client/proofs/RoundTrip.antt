@@ -11,6 +11,7 @@ use Rattle.lemmas.specs.RowTable.{firstRow}
 use Rattle.lemmas.specs.Tests.{_is_}
 use Rattle.rules.specs.Client.{build, buildRows, frameOf}
 use Rattle.rules.specs.Frame.{credentialAt, requestAt}
+use Rattle.rules.specs.Rows.{leastFrame}
 use Rattle.rules.proofs.RoundTrip.{reads-back}
 use Rattle.wire.specs.Parse.{answerBy, fieldsOf, frameRow, frameAnswer}
 use Rattle.client.specs.declared.Built.{Built}
@@ -22,7 +23,7 @@ unfolding build
 build-zero a b p k s e = go (firstRow (buildRows a b p k s) is 0) refl e
   where
     go : (i : Bool) → (firstRow (buildRows a b p k s) is 0) ≡ i
-        → cond {A = rules.Built} i (record { row = 0; length = 96 + length p; space = splice s 0 (frameOf a b p k) })
+        → cond {A = rules.Built} i (record { row = 0; length = leastFrame + length p; space = splice s 0 (frameOf a b p k) })
         (record { row = firstRow (buildRows a b p k s); length = 0; space = s }) .row ≡ 0
         → firstRow (buildRows a b p k s) ≡ 0
     go true z h = eqb-true (firstRow (buildRows a b p k s)) 0 z
@@ -37,7 +38,7 @@ module _ (a b p k s : List ℕ) (r : Built) (after : List ℕ) (m : BuildMet a b
       ap (λ (n : ℕ). take n after) (m .length) ∙ ap (take (build a b p k s .length)) (m .space)
       ∙ reads-back a b p k s accepted .frame
 
-  -- the fields that the parse tells are those of the records
+  -- the parse answers with the fields of that credential and request
   pub built-parsed : frameAnswer (take (r .length) after) ≡ fieldsOf (credentialAt a 0) (requestAt b 0)
   unfolding frameAnswer frameRow answerBy
   built-parsed =

@@ -1,12 +1,12 @@
 -- Laws of the client end's definitions, for the proofs of its code: what a row that is not 0 leaves, and what a row 0 does.
 use mathlib.Core.Path.{_∙_, _≡_, ap, refl, sym}
-use mathlib.Core.Bool.{false, true}
+use mathlib.Core.Bool.{Bool, false, not, true}
 use mathlib.Core.List.{[], _++_, append-assoc, append-nil, List}
 use Prim.Native.Nat.{_+_, _-_, _<_, _≤_, ℕ}
-use native.Mathlib.Decide.{decLt}
 use native.Mathlib.Omega.{arith}
+use lib.Dec.{leb}
 use lib.ListN.{getD, length-append, replicate, take, length}
-use borrow.Author.Tests.{eq-eqb, eqb-true, le-leb, le-ltb, lt-ltb, ltb-false, ne-eqb, not-false}
+use borrow.Author.Tests.{eq-eqb, eqb-true, le-leb, le-ltb, leb-false, leb-true, lt-ltb, ltb-false, ne-eqb, not-false}
 use Rattle.lemmas.specs.BigEndian.{layoutSize, length-encode}
 use Rattle.lemmas.specs.Layout.{splice-after-size}
 use Rattle.lemmas.specs.Lists.{every, splice}
@@ -17,25 +17,37 @@ use Rattle.digest.specs.Hmac.{hmac}
 use Rattle.rules.specs.declared.Credential.{Credential}
 use Rattle.rules.specs.declared.Request.{Request}
 use Rattle.rules.specs.Client.{badRecords, build, buildRows, frameOf, issue, issueRows, recordFaults}
-use Rattle.rules.specs.Frame.{covered, credentialBytes, credentialNumbers, credentialWidths, requestAt}
+use Rattle.rules.specs.Frame.{
+  covered,
+  credential-size,
+  credentialBytes,
+  credentialNumbers,
+  credentialSize,
+  credentialWidths,
+  dataStart,
+  digestSize,
+  keySize,
+  requestAt,
+  requestSize,
+  requestStart,
+}
+use Rattle.rules.specs.Rows.{leastFrame}
 use Rattle.octets.specs.Numbers.{bytesPut}
-use Rattle.fields.specs.Records.{requestOf}
+use Rattle.fields.specs.Records.{requestIn}
+use Rattle.record_rows.specs.BadRecords.{good-credential, good-request, request-is-read}
 use Rattle.credential_bytes.specs.Put.{credentialPut}
 use Rattle.client.specs.declared.Built.{Built}
 use Rattle.client.specs.declared.Issued.{Issued}
 use Rattle.client.specs.Met.{BuildMet, IssueMet}
-use Rattle.client.specs.ClientRows.{build-row, buildRow, issue-row, issueRow, lacksRoom}
+use Rattle.client.specs.ClientRows.{build-row, buildRow, issue-row, issueRow}
 
--- ---- room for a frame, by differences
-pub room-short : (s n : ℕ) → s < 96 → lacksRoom s n ≡ true
-room-short s n h = lt-ltb s (96 + n) (omega arith)
-
-pub room-rest : (s n : ℕ) → 96 ≤ s → (s - 96 under n) ≡ lacksRoom s n
-room-rest s n h = go (decLt (s - 96) n)
+-- ---- bytes that do not fit have too little room
+pub not-fits : (n len : ℕ) → not (leb n len) ≡ (len under n)
+not-fits n len = go (leb n len) refl
   where
-    go : Dec (s - 96 < n) → (s - 96 under n) ≡ (s under 96 + n)
-    go (yes k) = lt-ltb (s - 96) n k ∙ sym (lt-ltb s (96 + n) (omega arith))
-    go (no k) = le-ltb (s - 96) n (omega arith) ∙ sym (le-ltb s (96 + n) (omega arith))
+    go : (b : Bool) → leb n len ≡ b → not b ≡ (len under n)
+    go true e = sym (le-ltb len n (leb-true n len e))
+    go false e = sym (lt-ltb len n (leb-false n len e))
 
 -- ---- what a frame's digest covers
 pub covered-records : (key a b p : List ℕ) (level : ℕ) → level ≡ 0 → hmac key (a ++ b ++ []) ≡ hmac key (covered level a b p)
@@ -50,21 +62,22 @@ covered-data key a b p level e = rw (ne-eqb level 0 e) (ap (hmac key) (append-as
 put-fits : (s : List ℕ) (i : ℕ) (b : List ℕ) → i + length b ≤ length s → bytesPut s i b ≡ splice s i b
 put-fits s i b h = rw (le-leb (i + length b) (length s) h) refl
 
-pub four-parts : (s a b p h : List ℕ) → length a ≡ 36 → length b ≡ 28 → length h ≡ 32 → 96 + length p ≤ length s
-    → bytesPut (bytesPut (bytesPut (bytesPut s 0 a) 36 b) 64 p) (64 + length p) h ≡ splice s 0 (a ++ (b ++ (p ++ h)))
+pub four-parts : (s a b p h : List ℕ) → length a ≡ credentialSize → length b ≡ requestSize → length h ≡ digestSize
+    → leastFrame + length p ≤ length s
+    → bytesPut (bytesPut (bytesPut (bytesPut s 0 a) requestStart b) dataStart p) (dataStart + length p) h ≡ splice s 0 (a ++ (b ++ (p ++ h)))
 four-parts s a b p h la lb lh room =
     let e1 : bytesPut s 0 a ≡ splice s 0 a = put-fits s 0 a (omega arith) in
     let l1 : length (splice s 0 a) ≡ length s = length-splice s a 0 (omega arith) in
-    let e2 : bytesPut (splice s 0 a) 36 b ≡ splice s 0 (a ++ b) =
-    put-fits (splice s 0 a) 36 b (omega arith) ∙ splice-after-size s a b 0 36 (omega arith) (omega arith) in
-    let n2 : length (a ++ b) ≡ 64 = length-append a b ∙ rw (la, lb) refl in
+    let e2 : bytesPut (splice s 0 a) requestStart b ≡ splice s 0 (a ++ b) =
+    put-fits (splice s 0 a) requestStart b (omega arith) ∙ splice-after-size s a b 0 requestStart (omega arith) (omega arith) in
+    let n2 : length (a ++ b) ≡ dataStart = length-append a b ∙ rw (la, lb) refl in
     let l2 : length (splice s 0 (a ++ b)) ≡ length s = length-splice s (a ++ b) 0 (omega arith) in
-    let e3 : bytesPut (splice s 0 (a ++ b)) 64 p ≡ splice s 0 (a ++ b ++ p) =
-    put-fits (splice s 0 (a ++ b)) 64 p (omega arith) ∙ splice-after-size s (a ++ b) p 0 64 (omega arith) (omega arith) in
-    let n3 : length (a ++ b ++ p) ≡ 64 + length p = length-append (a ++ b) p ∙ rw n2 refl in
+    let e3 : bytesPut (splice s 0 (a ++ b)) dataStart p ≡ splice s 0 (a ++ b ++ p) =
+    put-fits (splice s 0 (a ++ b)) dataStart p (omega arith) ∙ splice-after-size s (a ++ b) p 0 dataStart (omega arith) (omega arith) in
+    let n3 : length (a ++ b ++ p) ≡ dataStart + length p = length-append (a ++ b) p ∙ rw n2 refl in
     let l3 : length (splice s 0 (a ++ b ++ p)) ≡ length s = length-splice s (a ++ b ++ p) 0 (omega arith) in
-    let e4 : bytesPut (splice s 0 (a ++ b ++ p)) (64 + length p) h ≡ splice s 0 (a ++ b ++ p ++ h) =
-    put-fits (splice s 0 (a ++ b ++ p)) (64 + length p) h (omega arith) ∙ splice-after-size s (a ++ b ++ p) h 0 (64 + length p) (omega arith) (omega arith) in
+    let e4 : bytesPut (splice s 0 (a ++ b ++ p)) (dataStart + length p) h ≡ splice s 0 (a ++ b ++ p ++ h) =
+    put-fits (splice s 0 (a ++ b ++ p)) (dataStart + length p) h (omega arith) ∙ splice-after-size s (a ++ b ++ p) h 0 (dataStart + length p) (omega arith) (omega arith) in
     rw (e1, e2, e3) e4
     ∙ ap (splice s 0) (append-assoc (a ++ b) p h ∙ append-assoc a b (p ++ h))
 
@@ -73,7 +86,7 @@ module _ (c : Credential) (k s : List ℕ) where
   issue-is : (row : ℕ) → issueRow c (length k) (length s) ≡ row → firstRow (issueRows c k s) ≡ row
   issue-is row e = issue-row c k s ∙ e
 
-  pub issue-refused : (row : ℕ) (r : Issued) → row ≡ issueRow c (length k) (length s) → (row ≡ 0 → ⊥) → r ≡ record { row = row; key = replicate 32 0 }
+  pub issue-refused : (row : ℕ) (r : Issued) → row ≡ issueRow c (length k) (length s) → (row ≡ 0 → ⊥) → r ≡ record { row = row; key = replicate keySize 0 }
       → IssueMet c k s r s
   unfolding issue
   issue-refused row r e n h =
@@ -84,29 +97,29 @@ module _ (c : Credential) (k s : List ℕ) where
         space = rw (f, ne-eqb row 0 n) refl;
       })
 
-  issue-clear : issueRow c (length k) (length s) ≡ 0 → 36 ≤ length s
+  issue-clear : issueRow c (length k) (length s) ≡ 0 → credentialSize ≤ length s
   unfolding issueRows applies every
-  issue-clear e = ltb-false (length s) 36 (none-applies (issueRows c k s) refl (issue-is 0 e) 29)
+  issue-clear e = ltb-false (length s) credentialSize (none-applies (issueRows c k s) refl (issue-is 0 e) 29)
 
-  length-credential : length (credentialBytes c) ≡ 36
-  unfolding credentialBytes layoutSize
-  length-credential = length-encode credentialWidths (credentialNumbers c)
+  length-credential : length (credentialBytes c) ≡ credentialSize
+  unfolding credentialBytes
+  length-credential = length-encode credentialWidths (credentialNumbers c) ∙ credential-size
 
-  pub issue-room : issueRow c (length k) (length s) ≡ 0 → 36 ≤ length (credentialPut s c)
+  pub issue-room : issueRow c (length k) (length s) ≡ 0 → credentialSize ≤ length (credentialPut s c)
   issue-room e =
-      let h : 36 ≤ length s = issue-clear e in
-      rw (le-leb 36 (length s) h) (omega (arith, length-splice s (credentialBytes c) 0 (omega (arith, length-credential)), h))
+      let h : credentialSize ≤ length s = issue-clear e in
+      rw (le-leb credentialSize (length s) h) (omega (arith, length-splice s (credentialBytes c) 0 (omega (arith, length-credential)), h))
 
   pub issue-granted : (r : Issued) → issueRow c (length k) (length s) ≡ 0
-      → r .row ≡ 0 → r .key ≡ hmac k (take 36 (credentialPut s c)) → IssueMet c k s r (credentialPut s c)
+      → r .row ≡ 0 → r .key ≡ hmac k (take credentialSize (credentialPut s c)) → IssueMet c k s r (credentialPut s c)
   unfolding issue
   issue-granted r e hr hk =
       let f : firstRow (issueRows c k s) ≡ 0 = issue-is 0 e in
-      let put : credentialPut s c ≡ splice s 0 (credentialBytes c) = rw (le-leb 36 (length s) (issue-clear e)) refl in
-      let front : take 36 (splice s 0 (credentialBytes c)) ≡ credentialBytes c = splice-front s (credentialBytes c) 36 length-credential in
+      let put : credentialPut s c ≡ splice s 0 (credentialBytes c) = rw (le-leb credentialSize (length s) (issue-clear e)) refl in
+      let front : take credentialSize (splice s 0 (credentialBytes c)) ≡ credentialBytes c = splice-front s (credentialBytes c) credentialSize length-credential in
       record {
         row = hr ∙ rw f refl;
-        key = hk ∙ ap (λ (l : List ℕ). hmac k (take 36 l)) put ∙ ap (hmac k) front ∙ rw f refl;
+        key = hk ∙ ap (λ (l : List ℕ). hmac k (take credentialSize l)) put ∙ ap (hmac k) front ∙ rw f refl;
         space = put ∙ rw f refl;
       }
 
@@ -131,28 +144,27 @@ module _ (a b p k s : List ℕ) where
     unfolding buildRows every
     build-applies n = none-applies (buildRows a b p k s) refl (build-is 0 e) n
 
-    no-fault : (n : ℕ) → getD (recordFaults a b) n false ≡ false
-    unfolding badRecords buildRows applies
-    no-fault n = none-of (recordFaults a b) (or-l (badRecords a b) (requestAt b 0 .n isnt length p) (build-applies 28)) n
-
-    pub build-credential : length a ≡ 36
-    build-credential = eqb-true (length a) 36 (not-false (length a is 36) (no-fault 0))
-
-    pub build-request : length b ≡ 28
-    build-request = eqb-true (length b) 28 (not-false (length b is 28) (no-fault 1))
-
-    pub build-room : 96 + length p ≤ length s
+    good : badRecords a b ≡ false
     unfolding buildRows applies
-    build-room = ltb-false (length s) (96 + length p) (build-applies 29)
+    good = or-l (badRecords a b) (requestAt b 0 .n isnt length p) (build-applies 28)
 
-    pub build-granted : (r : Built) (h after : List ℕ) → r .row ≡ 0 → r .length ≡ 96 + length p
-        → h ≡ hmac k (covered (requestOf b .level) a b p) → after ≡ splice s 0 (a ++ (b ++ (p ++ h))) → BuildMet a b p k s r after
+    pub build-credential : length a ≡ credentialSize
+    build-credential = good-credential a b good
+
+    pub build-request : length b ≡ requestSize
+    build-request = good-request a b good
+
+    pub build-room : leastFrame + length p ≤ length s
+    unfolding buildRows applies
+    build-room = ltb-false (length s) (leastFrame + length p) (build-applies 29)
+
+    pub build-granted : (r : Built) (h after : List ℕ) → r .row ≡ 0 → r .length ≡ leastFrame + length p
+        → h ≡ hmac k (covered (requestIn b 0 .level) a b p) → after ≡ splice s 0 (a ++ (b ++ (p ++ h))) → BuildMet a b p k s r after
     unfolding build frameOf
     build-granted r h after hr hl hh ha =
         let f : firstRow (buildRows a b p k s) ≡ 0 = build-is 0 e in
-        let whole : requestOf b ≡ requestAt b 0 = rw (eq-eqb (length b) 28 build-request) refl in
         record {
           row = hr ∙ rw f refl;
           length = hl ∙ rw f refl;
-          space = ha ∙ rw f (ap (λ (d : List ℕ). splice s 0 (a ++ (b ++ (p ++ d)))) (hh ∙ ap (λ (q : Request). hmac k (covered (q .level) a b p)) whole));
+          space = ha ∙ rw f (ap (λ (d : List ℕ). splice s 0 (a ++ (b ++ (p ++ d)))) (hh ∙ ap (λ (x : Request). hmac k (covered (x .level) a b p)) (request-is-read a b good)));
         }

@@ -8,28 +8,24 @@ use Rattle.lemmas.specs.RowTable.{firstRow, line}
 use Rattle.lemmas.specs.Tests.{_isnt_, _under_}
 use Rattle.rules.specs.declared.Credential.{Credential}
 use Rattle.rules.specs.Client.{badRecords, buildRows, issueRows}
-use Rattle.rules.specs.Frame.{credentialMagic, credentialSize, requestAt}
+use Rattle.rules.specs.Frame.{credentialMagic, credentialSize, keySize, requestAt}
 use Rattle.rules.specs.Rows.{leastFrame, outsideCredential}
 
 -- the issuer's row, of a key of k bytes and a space of s
 unfoldable pub issueRow : Credential → ℕ → ℕ → ℕ
 issueRow c k s =
-    firstRow (line 26 (k isnt 32) ∷ line 28 (c .magic isnt credentialMagic || outsideCredential c) ∷ line 29 (s under credentialSize) ∷ [])
+    firstRow (line 26 (k isnt keySize) ∷ line 28 (c .magic isnt credentialMagic || outsideCredential c) ∷ line 29 (s under credentialSize) ∷ [])
 
 pub issue-row : (c : Credential) (key space : List ℕ) → firstRow (issueRows c key space) ≡ issueRow c (length key) (length space)
 unfolding issueRows issueRow
 issue-row c key space = refl
 
--- a space of s bytes is too short for a frame of n data bytes
-abbrev pub lacksRoom : ℕ → ℕ → Bool
-lacksRoom s n = s under leastFrame + n
-
 -- the builder's, of n bytes of data
 unfoldable pub buildRow : List ℕ → List ℕ → ℕ → ℕ → ℕ → ℕ
 buildRow credential request n k s =
-    firstRow (line 26 (k isnt 32)
+    firstRow (line 26 (k isnt keySize)
     ∷ line 28 (badRecords credential request || requestAt request 0 .n isnt n)
-    ∷ line 29 (lacksRoom s n)
+    ∷ line 29 (s under leastFrame + n)
     ∷ [])
 
 pub build-row : (credential request payload key space : List ℕ)

@@ -13,7 +13,7 @@ pub record IssueMet (c : Credential) (k s : List ℕ) (r : Issued) (after : List
   pub key : r .key ≡ rules.issue c k s .key
   pub space : after ≡ rules.issue c k s .space
 
--- the builder, of both records, the data, the credential key k and the space s: row, length and space
+-- the builder, of credential, request, data, the credential key k and the space s: row, length and space
 pub record BuildMet (credential request payload k s : List ℕ) (r : Built) (after : List ℕ) : Type 0 where
   pub row : r .row ≡ rules.build credential request payload k s .row
   pub length : r .length ≡ rules.build credential request payload k s .length

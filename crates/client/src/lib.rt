@@ -1,5 +1,4 @@
-// The client end of document 01: issuer, frame builder and reply check. The reply check stands in a crate of its own,
-// `reply_check`, and is passed on.
+// The client end of document 01: issuer, frame builder and reply check. The reply check is the crate `reply_check`'s.
 ghost use mathlib.Core.Path.{_≡_};
 ghost use Rattle.client.specs.Met.{IssueMet, BuildMet};
 use digest::mac;
@@ -10,7 +9,7 @@ mod rows;
 // Row 0 and the credential key; or the row and 32 zero bytes.
 pub struct Issued {
     pub row: u32,
-    pub key: [u8; 32],
+    pub key: [u8; fields::KEY_SIZE],
 }
 
 // Row 0 and the frame's length; or the row and length 0.
@@ -19,24 +18,24 @@ pub struct Built {
     pub length: usize,
 }
 
-// Writes the 36 bytes of a credential at the start of `space` and returns its key, made from the key in its slot.
-pub fn issue(fields: rules::Credential, key: &[u8], space: &mut [u8]) -> Issued
-    ensures { λ r. ⌜ IssueMet fields (now (key .entry)) (now (space .entry)) r (now (space .exit)) ⌝ }
+// Writes a credential's bytes at the start of `space` and returns its key, made from the key in its slot.
+pub fn issue(c: rules::Credential, key: &[u8], space: &mut [u8]) -> Issued
+    ensures { λ r. ⌜ IssueMet c (now (key .entry)) (now (space .entry)) r (now (space .exit)) ⌝ }
 {
-    let row = rows::issue_row(fields, key.len(), space.len());
+    let row = rows::issue_row(c, key.len(), space.len());
     if row != 0 {
-        let zeros = [0u8; 32];
+        let zeros = [0u8; fields::KEY_SIZE];
         return Issued { row, key: zeros };
     }
-    credential_bytes::put_credential(fields, space);
-    let secret = mac::of(key, &space[..36]);
+    credential_bytes::put_credential(c, space);
+    let secret = mac::of(key, &space[..fields::CREDENTIAL_SIZE]);
     Issued {
         row: 0,
         key: secret,
     }
 }
 
-// Writes a frame at the start of `space`: both records, the data and the digest under the credential key.
+// Writes a frame at the start of `space`: credential, request, data and the digest under the credential key.
 pub fn build(credential: &[u8], request: &[u8], bytes: &[u8], key: &[u8], space: &mut [u8]) -> Built
     ensures { λ r. ⌜ BuildMet (now (credential .entry)) (now (request .entry)) (now (bytes .entry)) (now (key .entry)) (now (space .entry)) r (now (space .exit)) ⌝ }
 {
@@ -44,11 +43,11 @@ pub fn build(credential: &[u8], request: &[u8], bytes: &[u8], key: &[u8], space:
     if row != 0 {
         return Built { row, length: 0 };
     }
-    let r = fields::request_of(request);
+    let r = fields::request_in(request, 0);
     let digest = rows::frame_digest(credential, request, bytes, key, r.level);
     rows::join(credential, request, bytes, &digest, space);
     Built {
         row: 0,
-        length: 96 + bytes.len(),
+        length: fields::LEAST_FRAME + bytes.len(),
     }
 }

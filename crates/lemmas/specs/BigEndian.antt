@@ -2,7 +2,7 @@
 use mathlib.Core.Path.{_≡_, refl, sym, ap, _∙_}
 use mathlib.Core.List.{List, [], _∷_, _++_, append-assoc}
 use Prim.Native.Nat.{ℕ, zero, suc, _+_, _*_, _/_, _%_, _^_, _≤_, _<_}
-use native.Mathlib.Nat.{pow-suc, pow-succ', div-div-eq-div-mul}
+use native.Mathlib.Nat.{pow-suc, pow-succ', div-div-eq-div-mul, add-assoc}
 use native.Mathlib.Omega.{arith}
 use lib.ListN.{length, getD, length-append, List·getD-append}
 use lib.Seq.{getD-append-add, getD-at}
@@ -106,6 +106,31 @@ read-encode (w ∷ ws) (v ∷ vs) p q fit =
     rw (append-assoc p b (e ++ q), size) at rest in
     rw (append-assoc b e q, head, there)
 
+-- ---- a number is below 256 to its width
+pub number-bound : (s : List ℕ) (i n : ℕ) → ((k : ℕ) → getD s k 0 < 256) → numberAt s i n < 256 ^ n
+unfolding numberAt
+number-bound s i zero bytes = omega arith
+number-bound s i (suc n) bytes =
+    rw (pow-suc 256 n) (omega (arith, number-bound s i n bytes, bytes (i + n)))
+
+pub power-positive : (n : ℕ) → 0 < 256 ^ n
+power-positive n = omega (arith, number-bound [] 0 n (λ k. omega arith))
+
+-- so what is read from bytes fits its fields
+pub read-fits : (s : List ℕ) (i : ℕ) (ws : List ℕ) → ((k : ℕ) → getD s k 0 < 256) → AllFit ws (readAll s i ws)
+unfolding readAll AllFit
+read-fits s i [] bytes = tt
+read-fits s i (w ∷ ws) bytes = (number-bound s i w bytes, read-fits s (i + w) ws bytes)
+
+-- the number of field k
+pub fits-at : (ws vs : List ℕ) → AllFit ws vs → (k : ℕ) → getD vs k 0 < 256 ^ getD ws k 0
+unfolding AllFit
+fits-at [] [] fit k = omega arith
+fits-at [] (v ∷ vs) fit k = absurd fit
+fits-at (w ∷ ws) [] fit k = absurd fit
+fits-at (w ∷ ws) (v ∷ vs) fit zero = fit .0
+fits-at (w ∷ ws) (v ∷ vs) fit (suc k) = fits-at ws vs (fit .1) k
+
 -- ---- a number looks at its own bytes only
 pub number-left : (p q : List ℕ) (i n : ℕ) → i + n ≤ length p → numberAt (p ++ q) i n ≡ numberAt p i n
 unfolding numberAt
@@ -119,3 +144,16 @@ number-right p q k i zero h = refl
 number-right p q k i (suc n) h =
     let e : k + i + n ≡ length p + (i + n) = omega arith in
     rw (number-right p q k i n h, e, getD-append-add p q (i + n) 0) refl
+
+-- and so does every field of every layout
+pub read-left : (p q : List ℕ) (i : ℕ) (ws : List ℕ) → i + layoutSize ws ≤ length p
+    → readAll (p ++ q) i ws ≡ readAll p i ws
+unfolding readAll layoutSize
+read-left p q i [] h = refl
+read-left p q i (w ∷ ws) h = rw (number-left p q i w (omega arith), read-left p q (i + w) ws (omega arith))
+
+pub read-right : (p q : List ℕ) (k i : ℕ) (ws : List ℕ) → length p ≡ k → readAll (p ++ q) (k + i) ws ≡ readAll q i ws
+unfolding readAll
+read-right p q k i [] h = refl
+read-right p q k i (w ∷ ws) h =
+    rw (number-right p q k i w h, add-assoc k i w, read-right p q k (i + w) ws h)

@@ -1,14 +1,14 @@
--- Numbers written into a list one after the other: bytes at a place, fields of a layout, and what stands there then.
+-- Numbers read and written byte by byte, and bytes written into a list one after the other.
 use mathlib.Core.Path.{_≡_, refl, sym, ap, _∙_, subst}
-use mathlib.Core.List.{List, [], _∷_, _++_, append-assoc, append-nil}
-use Prim.Native.Nat.{ℕ, zero, suc, _+_, _*_, _/_, _%_, _^_, _≤_, _<_}
-use native.Mathlib.Nat.{pow-suc, add-zero, add-assoc, suc-ne-zero}
+use mathlib.Core.List.{List, [], _∷_, _++_, append-assoc}
+use Prim.Native.Nat.{ℕ, suc, _+_, _*_, _/_, _%_, _^_, _≤_, _<_}
+use native.Mathlib.Nat.{pow-suc, add-zero}
 use native.Mathlib.Numerals.{add-one}
 use native.Mathlib.Omega.{arith}
 use lib.ListN.{length, getD, take, drop, length-append, take-append-drop}
 use lib.Seq.{getD-at, getD-take, take-take, take-at, length-take-le, drop-append-add, drop-drop, paste, take-length}
 use Rattle.lemmas.specs.Lists.{splice}
-use Rattle.lemmas.specs.BigEndian.{numberAt, bigEndian, layoutSize, encode, length-bigEndian, bigEndian-last}
+use Rattle.lemmas.specs.BigEndian.{numberAt, bigEndian, length-bigEndian, bigEndian-last}
 
 -- ---- a number read byte by byte
 pub number-none : (s : List ℕ) (i : ℕ) → numberAt s i 0 ≡ 0
@@ -74,25 +74,3 @@ unfolding splice
 paste-all d i s =
     ap (λ (r : List ℕ). (take i d ++ r) ++ drop (i + length s) d) (take-length s)
     ∙ append-assoc (take i d) s (drop (i + length s) d)
-
--- ---- fields written one after the other: one more field
-pub encode-snoc : (ws vs : List ℕ) (w v : ℕ) → length ws ≡ length vs
-    → encode (ws ++ (w ∷ [])) (vs ++ (v ∷ [])) ≡ encode ws vs ++ bigEndian w v
-unfolding encode
-encode-snoc [] [] w v e = append-nil (bigEndian w v)
-encode-snoc [] (y ∷ ys) w v e = absurd (suc-ne-zero (length ys) (sym e))
-encode-snoc (x ∷ xs) [] w v e = absurd (suc-ne-zero (length xs) e)
-encode-snoc (x ∷ xs) (y ∷ ys) w v e =
-    rw (encode-snoc xs ys w v (omega (arith, e))) (sym (append-assoc (bigEndian x y) (encode xs ys) (bigEndian w v)))
-
-pub layout-snoc : (ws : List ℕ) (w : ℕ) → layoutSize (ws ++ (w ∷ [])) ≡ layoutSize ws + w
-unfolding layoutSize
-layout-snoc [] w = omega arith
-layout-snoc (x ∷ xs) w = rw (layout-snoc xs w) (sym (add-assoc x (layoutSize xs) w))
-
--- the fields up to one are no longer than all
-pub layout-take : (ws : List ℕ) (n : ℕ) → layoutSize (take n ws) ≤ layoutSize ws
-unfolding layoutSize
-layout-take ws zero = omega arith
-layout-take [] (suc n) = omega arith
-layout-take (x ∷ xs) (suc n) = let h : layoutSize (take n xs) ≤ layoutSize xs = layout-take xs n in omega arith

@@ -1,2 +1,3 @@
 -- What the crate's contracts say beyond the general definitions.
 pub mod Numbers
+pub mod Fields

@@ -5,6 +5,7 @@ ghost use lib.Dec.{leb};
 ghost use Rattle.lemmas.specs.Lists.{same as Lists·same};
 ghost use Rattle.octets.specs.Numbers.{numberIn, numberPut, bytesPut};
 
+pub mod layout;
 mod places;
 
 // Whether n bytes from place at on lie within len. No sum, so none that wraps.

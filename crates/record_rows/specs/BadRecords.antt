@@ -1,34 +1,50 @@
--- Laws of `badRecords`, for the client end: a request that is not 28 bytes long may be read either way.
-use mathlib.Core.Path.{_≡_, ap, refl}
-use mathlib.Core.Bool.{_||_, Bool, cond, false, not, true}
-use mathlib.Core.List.{List}
+-- Laws of `badRecords`, for the client end: what credential and request have where it fails, and that a request which is
+-- not all there may be read either way.
+use mathlib.Core.Path.{_≡_, refl, sym, ap, _∙_}
+use mathlib.Core.Bool.{_||_, Bool, cond, false, not, true, true≢false}
+use mathlib.Core.List.{List, []}
 use Prim.Native.Nat.{ℕ}
+use native.Mathlib.Omega.{arith}
+use lib.Dec.{leb}
 use lib.ListN.{length}
-use Rattle.lemmas.specs.Tests.{_is_, _isnt_, or-intro-l, or-intro-r}
-use Rattle.rules.specs.declared.Credential.{Credential}
+use borrow.Author.Tests.{eqb-true, le-leb, leb-false, ne-eqb, not-false}
+use Rattle.lemmas.specs.Tests.{_is_, none-of}
 use Rattle.rules.specs.declared.Request.{Request}
-use Rattle.rules.specs.Client.{badRecords}
-use Rattle.rules.specs.Frame.{credentialAt, requestAt}
-use Rattle.rules.specs.Rows.{row3, row4, row6, row7, wrongData}
-use Rattle.fields.specs.Records.{noRequest, requestOf}
+use Rattle.rules.specs.Client.{badRecords, recordFaults}
+use Rattle.rules.specs.Frame.{credentialSize, requestAt, requestOf, requestSize}
+use Rattle.fields.specs.Records.{requestIn}
 
--- a request of another length is a bad record, whatever its numbers are taken to be
-pub bad-length : (a b : List ℕ) → (length b is 28) ≡ false → badRecords a b ≡ true
-unfolding badRecords
-bad-length a b e =
-    let c : Credential = credentialAt a 0 in
-    let r : Request = requestAt b 0 in
-    let t : (length a isnt 36 || length b isnt 28) ≡ true = or-intro-r (length a isnt 36) (length b isnt 28) (ap not e) in
-    or-intro-l (length a isnt 36 || length b isnt 28 || row3 c r || row4 c r || wrongData r || row6 c r) (row7 c r)
-    (or-intro-l (length a isnt 36 || length b isnt 28 || row3 c r || row4 c r || wrongData r) (row6 c r)
-    (or-intro-l (length a isnt 36 || length b isnt 28 || row3 c r || row4 c r) (wrongData r)
-    (or-intro-l (length a isnt 36 || length b isnt 28 || row3 c r) (row4 c r)
-    (or-intro-l (length a isnt 36 || length b isnt 28) (row3 c r) t))))
+module _ (a b : List ℕ) where
+  -- a request of another length is bad, whatever its numbers are taken to be
+  bad-length : (length b is requestSize) ≡ false → badRecords a b ≡ true
+  unfolding badRecords
+  bad-length e = go (badRecords a b) refl
+    where
+      go : (t : Bool) → badRecords a b ≡ t → t ≡ true
+      go true h = refl
+      go false h = absurd (true≢false (sym (ap not e) ∙ none-of (recordFaults a b) h 1))
 
--- so a test that comes after it may read the request either way
-pub bad-either : (a b : List ℕ) (t : Request → Bool) → (badRecords a b || t (requestOf b)) ≡ (badRecords a b || t (requestAt b 0))
-bad-either a b t = go (length b is 28) refl
-  where
-    go : (i : Bool) → (length b is 28) ≡ i → (badRecords a b || t (cond i (requestAt b 0) noRequest)) ≡ (badRecords a b || t (requestAt b 0))
-    go true e = refl
-    go false e = rw (bad-length a b e) refl
+  -- so a test that comes after it may read the request either way
+  pub bad-either : (t : Request → Bool) → (badRecords a b || t (requestIn b 0)) ≡ (badRecords a b || t (requestAt b 0))
+  bad-either t = go (leb requestSize (length b)) refl
+    where
+      go : (i : Bool) → leb requestSize (length b) ≡ i
+          → (badRecords a b || t (cond i (requestAt b 0) (requestOf []))) ≡ (badRecords a b || t (requestAt b 0))
+      go true e = refl
+      go false e =
+          rw (bad-length (ne-eqb (length b) requestSize (λ k. omega (arith, leb-false requestSize (length b) e)))) refl
+
+  -- where neither is bad, both have their lengths, and the request is read
+  module _ (good : badRecords a b ≡ false) where
+    pub good-credential : length a ≡ credentialSize
+    unfolding badRecords
+    good-credential = eqb-true (length a) credentialSize
+        (not-false (length a is credentialSize) (none-of (recordFaults a b) good 0))
+
+    pub good-request : length b ≡ requestSize
+    unfolding badRecords
+    good-request = eqb-true (length b) requestSize
+        (not-false (length b is requestSize) (none-of (recordFaults a b) good 1))
+
+    pub request-is-read : requestIn b 0 ≡ requestAt b 0
+    request-is-read = rw (le-leb requestSize (length b) (omega (arith, good-request))) refl

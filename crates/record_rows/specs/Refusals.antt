@@ -1,4 +1,5 @@
--- Document 01, rows 3 to 7: what refuses a credential by itself, and two records in a frame of a length.
+-- Document 01, rows 3 to 7: what refuses a credential by itself, and credential and request in a frame of a
+-- length.
 -- c, r: the numbers of a credential and a request.
 use mathlib.Core.Bool.{Bool, _||_}
 use mathlib.Core.List.{List, [], _∷_}
@@ -14,7 +15,7 @@ use Rattle.rules.specs.Rows.{leastFrame, row3, row4, wrongData, row6, row7, out
 abbrev pub badCredential : Credential → Bool
 badCredential c = c .magic isnt credentialMagic || outsideCredential c
 
--- ---- the lowest of rows 3 to 7 that refuses two records in a frame of len bytes, or 0
+-- ---- the lowest of rows 3 to 7 that refuses both in a frame of len bytes, or 0
 abbrev pub wrongLength : Request → ℕ → Bool
 wrongLength r len = wrongData r || len isnt leastFrame + r .n
 

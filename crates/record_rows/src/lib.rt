@@ -1,25 +1,30 @@
-// Rows 3 to 7 of document 01 over the two records, each a test with no branch.
+// Rows 3 to 7 of document 01 over a credential and a request, each a test with no branch.
 ghost use mathlib.Core.Path.{_≡_};
 ghost use Rattle.rules.specs.Rows.{row3, row4, row6, row7, outsideCredential, outsideRequest, dataLength, wrongData};
 ghost use Rattle.rules.specs.Client.{badRecords};
 ghost use Rattle.record_rows.specs.Refusals.{badCredential, wrongLength, recordRow};
 use lemmas::pick;
 
-// The two bytes that each record starts with (document 01's marks).
+// The two bytes that each starts with (document 01's marks).
 pub const CREDENTIAL_MAGIC: u16 = 0x4c43;
 
 pub const REQUEST_MAGIC: u16 = 0x4c52;
 
+// The most data that a frame carries, and the data that operation 7 carries.
+const MOST_DATA: u32 = 1048576;
+
+const SEED_SIZE: u32 = 16;
+
 // Row 3.
-fn bad_magic(c: rules::Credential, q: rules::Request) -> bool
-    ensures { λ r. ⌜ r ≡ row3 c q ⌝ }
+fn bad_magic(c: rules::Credential, r: rules::Request) -> bool
+    ensures { λ b. ⌜ b ≡ row3 c r ⌝ }
 {
-    (c.magic != CREDENTIAL_MAGIC) | (q.magic != REQUEST_MAGIC)
+    (c.magic != CREDENTIAL_MAGIC) | (r.magic != REQUEST_MAGIC)
 }
 
 // Row 4, in the credential, in the request, in either.
 fn outside_credential(c: rules::Credential) -> bool
-    ensures { λ r. ⌜ r ≡ outsideCredential c ⌝ }
+    ensures { λ b. ⌜ b ≡ outsideCredential c ⌝ }
 {
     (c.partition > 3)
         | (c.slot > 4)
@@ -29,46 +34,46 @@ fn outside_credential(c: rules::Credential) -> bool
         | (c.zero != 0)
 }
 
-fn outside_request(q: rules::Request) -> bool
-    ensures { λ r. ⌜ r ≡ outsideRequest q ⌝ }
+fn outside_request(r: rules::Request) -> bool
+    ensures { λ b. ⌜ b ≡ outsideRequest r ⌝ }
 {
-    (q.operation < 1) | (q.operation > 7) | (q.level > 2) | (q.n > 1048576)
+    (r.operation < 1) | (r.operation > 7) | (r.level > 2) | (r.n > MOST_DATA)
 }
 
-fn outside(c: rules::Credential, q: rules::Request) -> bool
-    ensures { λ r. ⌜ r ≡ row4 c q ⌝ }
+fn outside(c: rules::Credential, r: rules::Request) -> bool
+    ensures { λ b. ⌜ b ≡ row4 c r ⌝ }
 {
-    outside_credential(c) | outside_request(q)
+    outside_credential(c) | outside_request(r)
 }
 
 // The data's length that the operation calls for.
-fn data_length(q: rules::Request) -> u32
-    ensures { λ r. ⌜ r ≡ dataLength q ⌝ }
+fn data_length(r: rules::Request) -> u32
+    ensures { λ n. ⌜ n ≡ dataLength r ⌝ }
 {
-    let rest = pick(q.operation == 7, 16, 0);
-    pick(q.operation == 2, q.B, rest)
+    let rest = pick(r.operation == 7, SEED_SIZE, 0);
+    pick(r.operation == 2, r.B, rest)
 }
 
-// Row 5: of the records alone, and with the frame's length.
-fn wrong_data(q: rules::Request) -> bool
-    ensures { λ r. ⌜ r ≡ wrongData q ⌝ }
+// Row 5: of the request alone, and with the frame's length.
+fn wrong_data(r: rules::Request) -> bool
+    ensures { λ b. ⌜ b ≡ wrongData r ⌝ }
 {
-    q.n != data_length(q)
+    r.n != data_length(r)
 }
 
-fn wrong_length(q: rules::Request, len: usize) -> bool
-    ensures { λ r. ⌜ r ≡ wrongLength q len ⌝ }
+fn wrong_length(r: rules::Request, len: usize) -> bool
+    ensures { λ b. ⌜ b ≡ wrongLength r len ⌝ }
 {
-    wrong_data(q) | (len != fields::LEAST_FRAME + q.n as usize)
+    wrong_data(r) | (len != fields::LEAST_FRAME + r.n as usize)
 }
 
 // Row 6.
-fn misfit(c: rules::Credential, q: rules::Request) -> bool
-    ensures { λ r. ⌜ r ≡ row6 c q ⌝ }
+fn misfit(c: rules::Credential, r: rules::Request) -> bool
+    ensures { λ b. ⌜ b ≡ row6 c r ⌝ }
 {
-    let op = q.operation;
-    let a = q.A;
-    let b = q.B;
+    let op = r.operation;
+    let a = r.A;
+    let b = r.B;
     let slot = c.slot;
     let none = c.object == 0;
     let create = op == 5;
@@ -87,38 +92,38 @@ fn misfit(c: rules::Credential, q: rules::Request) -> bool
 }
 
 // Row 7.
-fn low_level(c: rules::Credential, q: rules::Request) -> bool
-    ensures { λ r. ⌜ r ≡ row7 c q ⌝ }
+fn low_level(c: rules::Credential, r: rules::Request) -> bool
+    ensures { λ b. ⌜ b ≡ row7 c r ⌝ }
 {
-    (q.level < c.least) | ((q.level == 0) & (q.operation == 7))
+    (r.level < c.least) | ((r.level == 0) & (r.operation == 7))
 }
 
 // Whether a credential's own fields are refused, by row 3 or 4.
 pub fn bad_credential(c: rules::Credential) -> bool
-    ensures { λ r. ⌜ r ≡ badCredential c ⌝ }
+    ensures { λ b. ⌜ b ≡ badCredential c ⌝ }
 {
     (c.magic != CREDENTIAL_MAGIC) | outside_credential(c)
 }
 
-// The lowest of rows 3 to 7 that refuses the records in a frame of len bytes, or 0.
-pub fn record_row(c: rules::Credential, q: rules::Request, len: usize) -> u32
-    ensures { λ r. ⌜ r ≡ recordRow c q len ⌝ }
+// The lowest of rows 3 to 7 that refuses credential and request in a frame of len bytes, or 0.
+pub fn record_row(c: rules::Credential, r: rules::Request, len: usize) -> u32
+    ensures { λ row. ⌜ row ≡ recordRow c r len ⌝ }
 {
-    let r = pick(low_level(c, q), 7, 0);
-    let r = pick(misfit(c, q), 6, r);
-    let r = pick(wrong_length(q, len), 5, r);
-    let r = pick(outside(c, q), 4, r);
-    pick(bad_magic(c, q), 3, r)
+    let row = pick(low_level(c, r), 7, 0);
+    let row = pick(misfit(c, r), 6, row);
+    let row = pick(wrong_length(r, len), 5, row);
+    let row = pick(outside(c, r), 4, row);
+    pick(bad_magic(c, r), 3, row)
 }
 
-// Whether a credential and a request, each a record of its own, are refused: by a length, or by one of rows 3 to 7.
+// Whether a credential and a request, each in bytes of its own, are refused: by a length, or by one of rows 3 to 7.
 pub fn bad_records(credential: &[u8], request: &[u8]) -> bool
-    ensures { λ r. ⌜ r ≡ badRecords (now (credential .entry)) (now (request .entry)) ⌝ }
+    ensures { λ b. ⌜ b ≡ badRecords (now (credential .entry)) (now (request .entry)) ⌝ }
 {
     if (credential.len() != fields::CREDENTIAL_SIZE) | (request.len() != fields::REQUEST_SIZE) {
         return true;
     }
     let c = fields::credential_in(credential, 0);
-    let q = fields::request_in(request, 0);
-    bad_magic(c, q) | outside(c, q) | wrong_data(q) | misfit(c, q) | low_level(c, q)
+    let r = fields::request_in(request, 0);
+    bad_magic(c, r) | outside(c, r) | wrong_data(r) | misfit(c, r) | low_level(c, r)
 }

@@ -3,31 +3,41 @@ ghost use mathlib.Core.Path.{_≡_};
 ghost use Rattle.rules.specs.Operations.{resultLength, replyLength, head};
 use lemmas::pick;
 
+// The lengths of a reply's head and of its digest.
+pub const HEAD_SIZE: usize = 8;
+
+const SEAL_SIZE: u32 = 32;
+
+// The lengths of a look's result, of size and version, and of a raise's or a create's, of the new version.
+const LOOK_SIZE: u32 = 8;
+
+const VERSION_SIZE: u32 = 4;
+
 // How long the result is that a request calls for.
-pub fn result_length(q: rules::Request) -> u32
-    ensures { λ r. ⌜ r ≡ resultLength q ⌝ }
+pub fn result_length(r: rules::Request) -> u32
+    ensures { λ n. ⌜ n ≡ resultLength r ⌝ }
 {
-    let r = pick((q.operation == 4) | (q.operation == 5), 4, 0);
-    let r = pick(q.operation == 3, 8, r);
-    pick(q.operation == 1, q.B, r)
+    let n = pick((r.operation == 4) | (r.operation == 5), VERSION_SIZE, 0);
+    let n = pick(r.operation == 3, LOOK_SIZE, n);
+    pick(r.operation == 1, r.B, n)
 }
 
 // How long the whole reply is: head, result, and at level 2 a digest.
-pub fn reply_length(q: rules::Request) -> u64
-    ensures { λ r. ⌜ r ≡ replyLength q ⌝ }
+pub fn reply_length(r: rules::Request) -> u64
+    ensures { λ n. ⌜ n ≡ replyLength r ⌝ }
 {
-    8 + result_length(q) as u64 + pick(q.level == 2, 32, 0) as u64
+    HEAD_SIZE as u64 + result_length(r) as u64 + pick(r.level == 2, SEAL_SIZE, 0) as u64
 }
 
-// The eight bytes before a result of n bytes.
-pub fn reply_head(q: rules::Request, n: u32) -> [u8; 8]
-    ensures { λ r. ⌜ r ≡ head q n ⌝ }
+// The head before a result of n bytes.
+pub fn reply_head(r: rules::Request, n: u32) -> [u8; HEAD_SIZE]
+    ensures { λ h. ⌜ h ≡ head r n ⌝ }
 {
     [
         0x4c,
         0x41,
-        q.operation,
-        q.level,
+        r.operation,
+        r.level,
         (n / 16777216 % 256) as u8,
         (n / 65536 % 256) as u8,
         (n / 256 % 256) as u8,

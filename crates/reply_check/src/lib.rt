@@ -6,29 +6,34 @@ ghost use lib.ListN.{length, take};
 ghost use Rattle.lemmas.specs.Lists.{part, same};
 ghost use Rattle.lemmas.specs.RowTable.{firstRow};
 ghost use Rattle.digest.specs.Hmac.{hmac};
+ghost use Rattle.rules.specs.Frame.{digestSize};
 ghost use Rattle.rules.specs.Operations.{replyCovered};
 ghost use Rattle.rules.specs.Client.{checkRows};
 ghost use Rattle.reply_check.specs.Shape.{wrongShape};
 ghost use Rattle.reply_check.specs.Met.{CheckMet};
 use digest::mac;
 use lemmas::pick;
+pub use reply::HEAD_SIZE;
+
+// The longest result that a reply may be asked for.
+const MOST_RESULT: u32 = 4194304;
 
 // Whether a reply has not the head and the length that the request calls for.
-fn wrong_shape(reply: &[u8], q: rules::Request) -> bool
-    ensures { λ r. ⌜ r ≡ wrongShape (now (reply .entry)) q ⌝ }
+fn wrong_shape(reply: &[u8], r: rules::Request) -> bool
+    ensures { λ b. ⌜ b ≡ wrongShape (now (reply .entry)) r ⌝ }
 {
-    if reply.len() as u64 != reply::reply_length(q) {
+    if reply.len() as u64 != reply::reply_length(r) {
         return true;
     }
-    let n = reply::result_length(q);
-    let head = reply::reply_head(q, n);
-    !octets::same(&reply[..8], &head)
+    let n = reply::result_length(r);
+    let head = reply::reply_head(r, n);
+    !octets::same(&reply[..HEAD_SIZE], &head)
 }
 
 // Whether a reply's digest, after n bytes of head and result, is another than the one under the credential key.
 fn wrong_digest(credential: &[u8], request: &[u8], key: &[u8], reply: &[u8], n: usize) -> bool
-    requires { ⌜ length (now reply) ≡ n + 32 ⌝ }
-    ensures { λ r. ⌜ r ≡ not (same (part (now (reply .entry)) n 32) (hmac (now (key .entry)) (replyCovered (now (credential .entry)) (now (request .entry)) (take n (now (reply .entry)))))) ⌝ }
+    requires { ⌜ length (now reply) ≡ n + digestSize ⌝ }
+    ensures { λ b. ⌜ b ≡ not (same (part (now (reply .entry)) n digestSize) (hmac (now (key .entry)) (replyCovered (now (credential .entry)) (now (request .entry)) (take n (now (reply .entry)))))) ⌝ }
 {
     let right = mac::of3(key, credential, request, &reply[..n]);
     !octets::same(&reply[n..], &right)
@@ -36,33 +41,33 @@ fn wrong_digest(credential: &[u8], request: &[u8], key: &[u8], reply: &[u8], n: 
 
 // The reply check's row.
 fn check_row(credential: &[u8], request: &[u8], key: &[u8], reply: &[u8]) -> u32
-    ensures { λ r. ⌜ r ≡ firstRow (checkRows (now (credential .entry)) (now (request .entry)) (now (key .entry)) (now (reply .entry))) ⌝ }
+    ensures { λ row. ⌜ row ≡ firstRow (checkRows (now (credential .entry)) (now (request .entry)) (now (key .entry)) (now (reply .entry))) ⌝ }
 {
-    let q = fields::request_of(request);
-    let n = reply::result_length(q);
-    let r = pick(
-        record_rows::bad_records(credential, request) | (n > 4194304),
+    let r = fields::request_in(request, 0);
+    let n = reply::result_length(r);
+    let row = pick(
+        record_rows::bad_records(credential, request) | (n > MOST_RESULT),
         28,
         0,
     );
-    let r = pick(key.len() != 32, 26, r);
-    if r != 0 {
-        return r;
+    let row = pick(key.len() != fields::KEY_SIZE, 26, row);
+    if row != 0 {
+        return row;
     }
-    if wrong_shape(reply, q) {
+    if wrong_shape(reply, r) {
         return 30;
     }
-    if q.level != 2 {
+    if r.level != 2 {
         return 0;
     }
     pick(
-        wrong_digest(credential, request, key, reply, 8 + n as usize),
+        wrong_digest(credential, request, key, reply, HEAD_SIZE + n as usize),
         30,
         0,
     )
 }
 
-// The result, as the part of `reply` after its eight-byte head, and row 0; or an empty part and the row.
+// The result, as the part of `reply` after its head, and row 0; or an empty part and the row.
 pub fn check<'a>(
     credential: &[u8],
     request: &[u8],
@@ -75,9 +80,9 @@ pub fn check<'a>(
     let found = check_row(credential, request, key, reply);
     *row = found;
     if found == 0 {
-        let n = reply::result_length(fields::request_of(request)) as usize;
-        let end = 8 + n;
-        &reply[8..end]
+        let n = reply::result_length(fields::request_in(request, 0)) as usize;
+        let end = HEAD_SIZE + n;
+        &reply[HEAD_SIZE..end]
     } else {
         &reply[..0]
     }

@@ -1,6 +1,4 @@
--- Demand 2: what the builder writes, the gate reads as the same fields; and the reply that the gate's rules give to
--- a built frame is one
--- that the reply check accepts, with that result.
+-- Demand 2: what the builder writes, the gate reads as the same fields.
 use mathlib.Core.Path.{_∙_, _≡_, ap, refl, sym}
 use mathlib.Core.Bool.{false}
 use mathlib.Core.List.{_++_, List}
@@ -9,7 +7,6 @@ use native.Mathlib.Omega.{arith}
 use lib.ListN.{drop, getD, length, length-append}
 use lib.Seq.{drop-at, drop-drop, take-all, take-at}
 use borrow.Author.Tests.{eq-eqb, eqb-true, le-ltb, ltb-false, not-false}
-use Rattle.lemmas.specs.BigEndian.{number-left, number-right, numberAt}
 use Rattle.lemmas.specs.Lists.{every, part, splice}
 use Rattle.lemmas.specs.RowTable.{applies, firstRow, none-applies}
 use Rattle.lemmas.specs.Tests.{_is_, _isnt_, none-of, or-l, or-r}
@@ -19,78 +16,61 @@ use Rattle.rules.specs.Client.{badRecords, build, buildRows, frameOf, re
 use Rattle.rules.specs.Demands.{builtFrame, ReadsBack}
 use Rattle.digest.specs.Hmac.{hmac}
 use Rattle.digest.specs.DigestLaws.{length-hmac}
-use Rattle.rules.specs.Frame.{covered, credentialAt, Fields, fields, requestAt}
-use Rattle.rules.specs.Rows.{frameRows, row2, row5}
+use Rattle.rules.specs.Frame.{
+  covered,
+  credential-in-front,
+  credentialAt,
+  credentialSize,
+  dataStart,
+  digestSize,
+  Fields,
+  fields,
+  request-behind,
+  requestAt,
+  requestSize,
+  requestStart,
+}
+use Rattle.rules.specs.Rows.{frameRows, leastFrame, row2, row5}
 
 -- ---- a frame put together from its parts has their fields
-module _ (credential request payload digest : List ℕ) (hc : length credential ≡ 36) (hr : length request ≡ 28) where
+module _ (credential request payload digest : List ℕ) (hc : length credential ≡ credentialSize)
+    (hr : length request ≡ requestSize) where
   abbrev whole : List ℕ
   whole = credential ++ (request ++ (payload ++ digest))
 
   cred-same : credentialAt whole 0 ≡ credentialAt credential 0
-  unfolding credentialAt
-  cred-same = rw (
-    number-left credential rest 0 2 (omega arith),
-    number-left credential rest 2 1 (omega arith),
-    number-left credential rest 3 1 (omega arith),
-    number-left credential rest 4 4 (omega arith),
-    number-left credential rest 8 4 (omega arith),
-    number-left credential rest 12 2 (omega arith),
-    number-left credential rest 14 1 (omega arith),
-    number-left credential rest 15 1 (omega arith),
-    number-left credential rest 16 4 (omega arith),
-    number-left credential rest 20 4 (omega arith),
-    number-left credential rest 24 8 (omega arith),
-    number-left credential rest 32 4 (omega arith),
-  ) refl
-    where
-      rest : List ℕ
-      rest = request ++ (payload ++ digest)
+  cred-same = credential-in-front credential (request ++ (payload ++ digest)) (omega arith)
 
-  req-same : requestAt whole 36 ≡ requestAt request 0
-  unfolding requestAt
-  req-same = rw (
-    at 0 2 (omega arith),
-    at 2 1 (omega arith),
-    at 3 1 (omega arith),
-    at 4 8 (omega arith),
-    at 12 4 (omega arith),
-    at 16 4 (omega arith),
-    at 20 4 (omega arith),
-    at 24 4 (omega arith),
-  ) refl
-    where
-      at : (i n : ℕ) → i + n ≤ length request → numberAt whole (36 + i) n ≡ numberAt request i n
-      at i n h = number-right credential (request ++ (payload ++ digest)) 36 i n hc
-          ∙ number-left request (payload ++ digest) i n h
+  req-same : requestAt whole requestStart ≡ requestAt request 0
+  req-same = request-behind credential request (payload ++ digest) requestStart hc (omega arith)
 
   -- the parts themselves
-  credential-part : part whole 0 36 ≡ credential
+  credential-part : part whole 0 credentialSize ≡ credential
   unfolding part
-  credential-part = take-at credential (request ++ (payload ++ digest)) 36 hc
+  credential-part = take-at credential (request ++ (payload ++ digest)) credentialSize hc
 
-  request-part : part whole 36 28 ≡ request
+  request-part : part whole requestStart requestSize ≡ request
   unfolding part
-  request-part = rw (drop-at credential (request ++ (payload ++ digest)) 36 hc)
-      (take-at request (payload ++ digest) 28 hr)
+  request-part = rw (drop-at credential (request ++ (payload ++ digest)) requestStart hc)
+      (take-at request (payload ++ digest) requestSize hr)
 
-  behind : drop 64 whole ≡ payload ++ digest
+  behind : drop dataStart whole ≡ payload ++ digest
   behind =
-      sym (drop-drop 28 36 whole) ∙ ap (drop 28) (drop-at credential (request ++ (payload ++ digest)) 36 hc)
-      ∙ drop-at request (payload ++ digest) 28 hr
+      sym (drop-drop requestSize requestStart whole) ∙ ap (drop requestSize) (drop-at credential (request ++ (payload ++ digest)) requestStart hc)
+      ∙ drop-at request (payload ++ digest) requestSize hr
 
-  payload-part : (n : ℕ) → length payload ≡ n → part whole 64 n ≡ payload
+  payload-part : (n : ℕ) → length payload ≡ n → part whole dataStart n ≡ payload
   unfolding part
   payload-part n h = rw behind (take-at payload digest n h)
 
-  digest-part : (n : ℕ) → length payload ≡ n → length digest ≡ 32 → part whole (64 + n) 32 ≡ digest
+  digest-part : (n : ℕ) → length payload ≡ n → length digest ≡ digestSize → part whole (dataStart + n) digestSize ≡ digest
   unfolding part
   digest-part n h l =
-      rw (sym (drop-drop n 64 whole) ∙ ap (drop n) behind ∙ drop-at payload digest n h)
-      (take-all 32 digest (omega arith))
+      rw (sym (drop-drop n dataStart whole) ∙ ap (drop n) behind ∙ drop-at payload digest n h)
+      (take-all digestSize digest (omega arith))
 
   -- all of it
-  whole-fields : length digest ≡ 32 → length payload ≡ requestAt request 0 .n → fields whole ≡ record {
+  whole-fields : length digest ≡ digestSize → length payload ≡ requestAt request 0 .n → fields whole ≡ record {
     cred = credentialAt credential 0;
     req = requestAt request 0;
     credential = credential;
@@ -100,14 +80,14 @@ module _ (credential request payload digest : List ℕ) (hc : length credential 
   }
   unfolding fields
   whole-fields l h =
-      let n : length payload ≡ requestAt whole 36 .n = h ∙ ap Request.n (sym req-same) in
+      let n : length payload ≡ requestAt whole requestStart .n = h ∙ ap Request.n (sym req-same) in
       λ i. record {
         cred = cred-same i;
         req = req-same i;
         credential = credential-part i;
         request = request-part i;
-        payload = payload-part (requestAt whole 36 .n) n i;
-        digest = digest-part (requestAt whole 36 .n) n l i;
+        payload = payload-part (requestAt whole requestStart .n) n i;
+        digest = digest-part (requestAt whole requestStart .n) n l i;
       }
 
 -- ---- what the builder accepts
@@ -136,19 +116,19 @@ module _ (credential request payload key space : List ℕ)
   n-is = sym (eqb-true (r .n) (length payload) (not-false (r .n is length payload)
       (or-r (badRecords credential request) (r .n isnt length payload) (clear 28))))
 
-  room : 96 + length payload ≤ length space
+  room : leastFrame + length payload ≤ length space
   unfolding buildRows applies
-  room = ltb-false (length space) (96 + length payload) (clear 29)
+  room = ltb-false (length space) (leastFrame + length payload) (clear 29)
 
   fault : (k : ℕ) → getD (recordFaults credential request) k false ≡ false
   unfolding badRecords
   fault k = none-of (recordFaults credential request) records k
 
-  hc : length credential ≡ 36
-  hc = eqb-true (length credential) 36 (not-false (length credential is 36) (fault 0))
+  hc : length credential ≡ credentialSize
+  hc = eqb-true (length credential) credentialSize (not-false (length credential is credentialSize) (fault 0))
 
-  hr : length request ≡ 28
-  hr = eqb-true (length request) 28 (not-false (length request is 28) (fault 1))
+  hr : length request ≡ requestSize
+  hr = eqb-true (length request) requestSize (not-false (length request is requestSize) (fault 1))
 
   abbrev sealing : List ℕ
   sealing = hmac key (covered (r .level) credential request payload)
@@ -163,8 +143,7 @@ module _ (credential request payload key space : List ℕ)
     credential = credential;
     request = request;
     payload = payload;
-    digest =
-        sealing;
+    digest = sealing;
   }
 
   pub built-fields : fields f ≡ parts
@@ -172,7 +151,7 @@ module _ (credential request payload key space : List ℕ)
   built-fields = whole-fields credential request payload sealing hc hr
       (length-hmac key (covered (r .level) credential request payload)) n-is
 
-  length-frame : length f ≡ 96 + length payload
+  length-frame : length f ≡ leastFrame + length payload
   unfolding frameOf
   length-frame =
       simp (length-append) (omega (arith, hc, hr, length-hmac key (covered (r .level) credential request payload)))
@@ -180,11 +159,11 @@ module _ (credential request payload key space : List ℕ)
   no-row : firstRow (frameRows f parts) ≡ 0
   unfolding frameRows firstRow
   no-row =
-      let h2 : row2 f ≡ false = le-ltb (length f) 96 (omega (arith, length-frame)) in
+      let h2 : row2 f ≡ false = le-ltb (length f) leastFrame (omega (arith, length-frame)) in
       let h5 : row5 r f ≡ false = rw (
         fault 4,
-        eq-eqb (length f) (96 + r .n)
-            (length-frame ∙ ap (λ (n : ℕ). 96 + n) n-is),
+        eq-eqb (length f) (leastFrame + r .n)
+            (length-frame ∙ ap (λ (n : ℕ). leastFrame + n) n-is),
       ) refl in
       rw (h2, fault 2, fault 3, h5, fault 5, fault 6) refl
 
@@ -192,7 +171,7 @@ module _ (credential request payload key space : List ℕ)
   unfolding build splice
   written =
       rw (eq-eqb (firstRow (buildRows credential request payload key space)) 0 g)
-      (take-at f (drop (0 + length f) space) (96 + length payload) length-frame)
+      (take-at f (drop (0 + length f) space) (leastFrame + length payload) length-frame)
 
   pub reads-back : ReadsBack credential request payload key space
   reads-back = record {

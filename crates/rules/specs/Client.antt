@@ -15,6 +15,7 @@ use Rattle.rules.specs.Frame.{
   credentialMagic,
   credentialSize,
   digestSize,
+  keySize,
   requestAt,
   requestSize,
 }
@@ -23,7 +24,7 @@ use Rattle.rules.specs.Rows.{leastFrame, outsideCredential, row3, row4, 
 
 -- 26. "a key lent is not 32 bytes"
 abbrev pub row26 : List ℕ → Bool
-row26 key = length key isnt 32
+row26 key = length key isnt keySize
 
 -- ---- issuer: "writes the 36 bytes and returns the credential key"
 pub record Issued : Type 0 where
@@ -45,7 +46,7 @@ issue c key space =
     let row = firstRow (issueRows c key space) in
     cond (row is 0)
     (record { row = 0; key = hmac key (credentialBytes c); space = splice space 0 (credentialBytes c) })
-    (record { row = row; key = replicate 32 0; space = space })
+    (record { row = row; key = replicate keySize 0; space = space })
 
 -- ---- 28. builder and reply check: "a record not 36 or 28 bytes long, or one of rows 3–7 met by the records"
 abbrev pub recordFaults : List ℕ → List ℕ → List Bool
@@ -89,8 +90,7 @@ build credential request payload key space =
     (record {
       row = 0;
       length = leastFrame + length payload;
-      space =
-          splice space 0 (frameOf credential request payload key);
+      space = splice space 0 (frameOf credential request payload key);
     })
     (record { row = row; length = 0; space = space })
 
@@ -106,8 +106,7 @@ abbrev pub mostResult : ℕ
 mostResult = 4_194_304
 
 -- 30. "the reply is not the mark, operation, level, result length and total length that the request calls for, or
--- its level 2
--- digest differs"
+-- its level 2 digest differs"
 unfoldable pub row30 : List ℕ → List ℕ → List ℕ → List ℕ → Bool
 row30 credential request key reply =
     let r = requestAt request 0 in

@@ -1,12 +1,14 @@
 -- Document 01, "Credential, 36 bytes" and "Request, 28 bytes, and frame".
 -- f: a frame's bytes. x: its fields. c, r: the numbers of a credential and of a request.
-use mathlib.Core.Bool.{Bool, cond}
+use mathlib.Core.Path.{_≡_, ap, refl, _∙_}
+use mathlib.Core.Bool.{cond}
 use mathlib.Core.List.{List, [], _∷_, _++_}
-use Prim.Native.Nat.{ℕ, _+_}
-use lib.ListN.{getD}
+use Prim.Native.Nat.{ℕ, _+_, _≤_}
+use native.Mathlib.Nat.{add-zero}
+use lib.ListN.{getD, length}
 use Rattle.lemmas.specs.Tests.{_under_, _is_}
 use Rattle.lemmas.specs.Lists.{part}
-use Rattle.lemmas.specs.BigEndian.{numberAt, encode}
+use Rattle.lemmas.specs.BigEndian.{AllFit, encode, layoutSize, read-encode, read-left, read-right, readAll}
 use Rattle.rules.specs.declared.Credential.{Credential}
 use Rattle.rules.specs.declared.Request.{Request}
 use Rattle.rules.specs.declared.Entry.{Entry}
@@ -23,6 +25,10 @@ requestSize = 28
 abbrev pub digestSize : ℕ
 digestSize = 32
 
+-- and of a key
+abbrev pub keySize : ℕ
+keySize = 32
+
 -- where the request starts, and where the data starts
 abbrev pub requestStart : ℕ
 requestStart = credentialSize
@@ -30,28 +36,7 @@ requestStart = credentialSize
 abbrev pub dataStart : ℕ
 dataStart = requestStart + requestSize
 
--- ---- the credential that stands at place i of s: its fields by their offsets. `magic` is the document's mark,
--- `zero` its byte 15
-unfoldable pub credentialAt : List ℕ → ℕ → Credential
-credentialAt s i = record {
-  magic = numberAt s i 2;
-  partition = numberAt s (i + 2) 1;
-  slot = numberAt s (i + 3) 1;
-  object = numberAt s (i + 4) 4;
-  version = numberAt s (i + 8) 4;
-  rights = numberAt s (i + 12) 2;
-  least = numberAt s (i + 14) 1;
-  zero = numberAt s (i + 15) 1;
-  first = numberAt s (i + 16) 4;
-  end = numberAt s (i + 20) 4;
-  expiry = numberAt s (i + 24) 8;
-  holder = numberAt s (i + 32) 4;
-}
-
-abbrev pub credentialMagic : ℕ
-credentialMagic = 0x4c43
-
--- the same layout as a list of widths, to write by
+-- ---- the credential: its fields' widths in bytes, in their order. `magic` is the document's mark, `zero` its byte 15
 abbrev pub credentialWidths : List ℕ
 credentialWidths = 2 ∷ 1 ∷ 1 ∷ 4 ∷ 4 ∷ 2 ∷ 1 ∷ 1 ∷ 4 ∷ 4 ∷ 8 ∷ 4 ∷ []
 
@@ -60,35 +45,62 @@ credentialNumbers c =
     c .magic ∷ c .partition ∷ c .slot ∷ c .object ∷ c .version ∷ c .rights
     ∷ c .least ∷ c .zero ∷ c .first ∷ c .end ∷ c .expiry ∷ c .holder ∷ []
 
+-- the credential of those numbers, 0 where there are too few
+abbrev pub credentialOf : List ℕ → Credential
+credentialOf v = record {
+  magic = getD v 0 0;
+  partition = getD v 1 0;
+  slot = getD v 2 0;
+  object = getD v 3 0;
+  version = getD v 4 0;
+  rights = getD v 5 0;
+  least = getD v 6 0;
+  zero = getD v 7 0;
+  first = getD v 8 0;
+  end = getD v 9 0;
+  expiry = getD v 10 0;
+  holder = getD v 11 0;
+}
+
+-- the one that stands at place i of s, and its bytes
+unfoldable pub credentialAt : List ℕ → ℕ → Credential
+credentialAt s i = credentialOf (readAll s i credentialWidths)
+
 unfoldable pub credentialBytes : Credential → List ℕ
 credentialBytes c = encode credentialWidths (credentialNumbers c)
 
--- ---- the request that stands at place i of s
-unfoldable pub requestAt : List ℕ → ℕ → Request
-requestAt s i = record {
-  magic = numberAt s i 2;
-  operation = numberAt s (i + 2) 1;
-  level = numberAt s (i + 3) 1;
-  time = numberAt s (i + 4) 8;
-  count = numberAt s (i + 12) 4;
-  A = numberAt s (i + 16) 4;
-  B = numberAt s (i + 20) 4;
-  n = numberAt s (i + 24) 4;
-}
+abbrev pub credentialMagic : ℕ
+credentialMagic = 0x4c43
 
-abbrev pub requestMagic : ℕ
-requestMagic = 0x4c52
-
+-- ---- the request, in the same way
 abbrev pub requestWidths : List ℕ
 requestWidths = 2 ∷ 1 ∷ 1 ∷ 8 ∷ 4 ∷ 4 ∷ 4 ∷ 4 ∷ []
 
 abbrev pub requestNumbers : Request → List ℕ
 requestNumbers r = r .magic ∷ r .operation ∷ r .level ∷ r .time ∷ r .count ∷ r .A ∷ r .B ∷ r .n ∷ []
 
+abbrev pub requestOf : List ℕ → Request
+requestOf v = record {
+  magic = getD v 0 0;
+  operation = getD v 1 0;
+  level = getD v 2 0;
+  time = getD v 3 0;
+  count = getD v 4 0;
+  A = getD v 5 0;
+  B = getD v 6 0;
+  n = getD v 7 0;
+}
+
+unfoldable pub requestAt : List ℕ → ℕ → Request
+requestAt s i = requestOf (readAll s i requestWidths)
+
 unfoldable pub requestBytes : Request → List ℕ
 requestBytes r = encode requestWidths (requestNumbers r)
 
--- ---- a frame: the numbers of both records, and its four parts
+abbrev pub requestMagic : ℕ
+requestMagic = 0x4c52
+
+-- ---- a frame: the numbers of its credential and its request, and its four parts
 pub record Fields : Type 0 where
   pub cred : Credential
   pub req : Request
@@ -133,3 +145,33 @@ entry c r = record { slot = c .slot; holder = c .holder; time = r .time; count =
 
 unfoldable pub memoryIndex : Credential → ℕ
 memoryIndex c = cond (c .slot under 3) (c .partition) 4
+
+-- ---- laws of both layouts: their lengths; what is written is read back; what is read are a part's own bytes
+pub credential-size : layoutSize credentialWidths ≡ credentialSize
+unfolding layoutSize
+credential-size = refl
+
+pub request-size : layoutSize requestWidths ≡ requestSize
+unfolding layoutSize
+request-size = refl
+
+pub credential-read-back : (c : Credential) (p q : List ℕ) → AllFit credentialWidths (credentialNumbers c)
+    → credentialAt (p ++ (credentialBytes c ++ q)) (length p) ≡ c
+unfolding credentialAt credentialBytes
+credential-read-back c p q fit = ap credentialOf (read-encode credentialWidths (credentialNumbers c) p q fit)
+
+pub request-read-back : (r : Request) (p q : List ℕ) → AllFit requestWidths (requestNumbers r)
+    → requestAt (p ++ (requestBytes r ++ q)) (length p) ≡ r
+unfolding requestAt requestBytes
+request-read-back r p q fit = ap requestOf (read-encode requestWidths (requestNumbers r) p q fit)
+
+pub credential-in-front : (p q : List ℕ) → credentialSize ≤ length p → credentialAt (p ++ q) 0 ≡ credentialAt p 0
+unfolding credentialAt layoutSize
+credential-in-front p q h = ap credentialOf (read-left p q 0 credentialWidths h)
+
+pub request-behind : (p q rest : List ℕ) (i : ℕ) → length p ≡ i → requestSize ≤ length q
+    → requestAt (p ++ (q ++ rest)) i ≡ requestAt q 0
+unfolding requestAt layoutSize
+request-behind p q rest i h l =
+    ap requestOf
+    (rw (add-zero i) at (read-right p (q ++ rest) i 0 requestWidths h) ∙ read-left q rest 0 requestWidths l)

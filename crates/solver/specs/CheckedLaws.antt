@@ -1,10 +1,11 @@
--- From what the reply check promises to what the solver is told.
+-- From what the reply check promises to what the solver gets.
 use mathlib.Core.Path.{_∙_, _≡_, ap, sym}
 use mathlib.Core.List.{List}
 use Prim.Native.Nat.{ℕ}
 use lib.ListN.{length}
 use Rattle.lemmas.specs.RowTable.{firstRow}
 use Rattle.rules.specs.Client.{check, checkRows}
+use Rattle.rules.specs.Operations.{headSize}
 use Rattle.reply_check.specs.CheckLaws.{check-row-is, found-length, found-start, refused-none}
 use Rattle.reply_check.specs.Met.{CheckMet}
 use Rattle.solver.specs.declared.ReplyChecked.{ReplyChecked}
@@ -14,7 +15,7 @@ module _ (a b k s : List ℕ) (row : ℕ) (p : List ℕ) (m : CheckMet a b k s r
   is-row : row ≡ firstRow (checkRows a b k s)
   is-row = m .row ∙ check-row-is a b k s
 
-  pub checked-granted : row ≡ 0 → _≡_ {A = ReplyChecked} (record { row = 0; start = 8; length = length p }) (checkedOf a b k s)
+  pub checked-granted : row ≡ 0 → _≡_ {A = ReplyChecked} (record { row = 0; start = headSize; length = length p }) (checkedOf a b k s)
   unfolding checkedOf
   checked-granted e =
       let z : firstRow (checkRows a b k s) ≡ 0 = sym is-row ∙ e in

@@ -9,7 +9,7 @@ pub struct FrameBuilt {
     pub length: u64,
 }
 
-// The check's answer: row 0 and where in the reply the result stands, or the row and twice 0.
+// The check's answer: row 0 and the result's place and length in the reply; or the row, 0 and 0.
 #[repr(C)]
 pub struct ReplyChecked {
     pub row: u64,
@@ -17,7 +17,7 @@ pub struct ReplyChecked {
     pub length: u64,
 }
 
-// Writes a frame at the start of `space`, from both records and the data, under the credential key.
+// Writes a frame at the start of `space`, from credential, request and data, under the credential key.
 #[no_mangle]
 pub extern "C" fn sievelast_build(
     credential: &[u8],
@@ -35,7 +35,7 @@ pub extern "C" fn sievelast_build(
     }
 }
 
-// Finds the result in a reply to the request of those records, under the credential key.
+// Finds the result in a reply to that credential and request, under the credential key.
 #[no_mangle]
 pub extern "C" fn sievelast_check(
     credential: &[u8],
@@ -52,7 +52,7 @@ pub extern "C" fn sievelast_check(
     if found == 0 {
         return ReplyChecked {
             row: 0,
-            start: 8,
+            start: reply_check::HEAD_SIZE as u64,
             length,
         };
     }

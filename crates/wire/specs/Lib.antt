@@ -1,3 +1,3 @@
--- What the parse's answer tells, and what a caller has of it.
+-- What the parse's answer says, and what a caller has of it.
 pub mod Parse
 pub mod ParseLaws

@@ -1,6 +1,6 @@
--- Document 01, "Request, 28 bytes, and frame": "Parsing answers with the fields or with a row". What an answer tells,
--- and what a frame's answer has to tell.
--- f: the frame. c, r: the numbers of its credential and request. p: an answer, q: its request.
+-- Document 01, "Request, 28 bytes, and frame": "Parsing answers with the fields or with a row". What an answer says,
+-- and what a frame's answer has to say.
+-- f: the frame. c, r: the numbers of its credential and request. p: an answer, request: its parsed request.
 use mathlib.Core.Path.{_≡_}
 use mathlib.Core.Bool.{cond}
 use mathlib.Core.List.{List}
@@ -48,32 +48,32 @@ secondNumber (SetKey target) = 0
 
 -- a parsed request's numbers
 unfoldable pub numbersOf : ParsedRequest → Request
-numbersOf q = record {
+numbersOf request = record {
   magic = requestMagic;
-  operation = operationNumber (q .operation);
-  level = q .level;
-  time = q .time;
-  count = q .count;
-  A = firstNumber (q .operation);
-  B = secondNumber (q .operation);
-  n = q .n;
+  operation = operationNumber (request .operation);
+  level = request .level;
+  time = request .time;
+  count = request .count;
+  A = firstNumber (request .operation);
+  B = secondNumber (request .operation);
+  n = request .n;
 }
 
--- ---- what an answer tells: a row's number, or the numbers of both records
+-- ---- what an answer says: a row's number, or the numbers of credential and request
 pub data ParseAnswer : Type 0 where
   refusedBy : ℕ → ParseAnswer
   fieldsOf : Credential → Request → ParseAnswer
 
 abbrev pub answerOf : Parsed → ParseAnswer
 answerOf (Refused row) = refusedBy row
-answerOf (Fields c q) = fieldsOf c (numbersOf q)
+answerOf (Fields c request) = fieldsOf c (numbersOf request)
 
--- the row that it tells, 0 with fields
+-- its row, 0 with fields
 abbrev pub answerRow : Parsed → ℕ
 answerRow (Refused row) = row
-answerRow (Fields c q) = 0
+answerRow (Fields c request) = 0
 
--- ---- what a frame's answer has to tell: the lowest of rows 2 to 7 that applies, or the fields
+-- ---- what a frame's answer has to say: the lowest of rows 2 to 7 that applies, or the fields
 unfoldable pub answerBy : ℕ → Credential → Request → ParseAnswer
 answerBy row c r = cond (row is 0) (fieldsOf c r) (refusedBy row)
 
@@ -83,7 +83,7 @@ frameRow f = firstRow (frameRows f (fields f))
 unfoldable pub frameAnswer : List ℕ → ParseAnswer
 frameAnswer f = answerBy (frameRow f) (fields f .cred) (fields f .req)
 
--- ---- the same from the two records and the frame's length, which has 96 bytes at least: rows 3 to 7
+-- ---- the same from credential, request and length of a frame that row 2 does not refuse: rows 3 to 7
 unfoldable pub recordsAnswer : Credential → Request → ℕ → ParseAnswer
 recordsAnswer c r len = answerBy (recordRow c r len) c r
 

@@ -1,4 +1,5 @@
--- Laws of the parse's answer. For a caller: what each arm of `let Parsed::Fields(c, q) = parse(f) else ..` knows.
+-- Laws of the parse's answer. For a caller: what each arm of
+-- `let Parsed::Fields(c, request) = parse(f) else ..` knows.
 use mathlib.Core.Path.{_≡_, refl, sym, _∙_}
 use mathlib.Core.Bool.{Bool, true, false, _||_, cond, true≢false}
 use mathlib.Core.List.{List}
@@ -11,7 +12,7 @@ use Rattle.lemmas.specs.RowTable.{firstRow, applies, none-applies}
 use Rattle.rules.specs.declared.Credential.{Credential}
 use Rattle.rules.specs.declared.Request.{Request}
 use Rattle.rules.specs.Frame.{credentialMagic, requestMagic, requestStart, credentialAt, requestAt, fields}
-use Rattle.rules.specs.Rows.{row6, outsideCredential, requestFaults, outsideRequest, misfits, frameRows}
+use Rattle.rules.specs.Rows.{leastFrame, row6, outsideCredential, requestFaults, outsideRequest, misfits, frameRows}
 use Rattle.record_rows.specs.Refusals.{recordRows, recordRow}
 use Rattle.rules.specs.declared.Operation.{Operation}
 use Rattle.wire.specs.declared.ParsedRequest.{ParsedRequest}
@@ -36,14 +37,14 @@ use Rattle.wire.specs.Parse.{
 
 -- ---- for a caller
 -- fields: no row from 2 to 7 applies, and they are the frame's
-pub answered-fields : (f : List ℕ) (c : Credential) (q : ParsedRequest) → answerOf (Fields c q) ≡ frameAnswer f
-    → (frameRow f ≡ 0) × (c ≡ fields f .cred) × (numbersOf q ≡ fields f .req)
+pub answered-fields : (f : List ℕ) (c : Credential) (request : ParsedRequest) → answerOf (Fields c request) ≡ frameAnswer f
+    → (frameRow f ≡ 0) × (c ≡ fields f .cred) × (numbersOf request ≡ fields f .req)
 unfolding frameAnswer answerBy
-answered-fields f c q e = go (frameRow f is 0) refl e
+answered-fields f c request e = go (frameRow f is 0) refl e
   where
     go : (b : Bool) → (frameRow f is 0) ≡ b
-        → fieldsOf c (numbersOf q) ≡ cond b (fieldsOf (fields f .cred) (fields f .req)) (refusedBy (frameRow f))
-        → (frameRow f ≡ 0) × (c ≡ fields f .cred) × (numbersOf q ≡ fields f .req)
+        → fieldsOf c (numbersOf request) ≡ cond b (fieldsOf (fields f .cred) (fields f .req)) (refusedBy (frameRow f))
+        → (frameRow f ≡ 0) × (c ≡ fields f .cred) × (numbersOf request ≡ fields f .req)
     go true z e = (eqb-true (frameRow f) 0 z, cc, cc)
     go false z e = (cc, cc, cc)
 
@@ -61,17 +62,17 @@ answered-refused f row e = go (frameRow f is 0) refl e
 -- either way, `row_of` gives the frame's row
 pub answered-row : (f : List ℕ) (p : Parsed) → answerOf p ≡ frameAnswer f → answerRow p ≡ frameRow f
 answered-row f (Refused row) e = answered-refused f row e .0
-answered-row f (Fields c q) e = sym (answered-fields f c q e .0)
+answered-row f (Fields c request) e = sym (answered-fields f c request e .0)
 
--- ---- for the parse itself: a short frame, and one with room for the records
-pub answered-short : (f : List ℕ) → length f < 96 → frameAnswer f ≡ refusedBy 2
+-- ---- for the parse itself: a short frame, and one with room for credential and request
+pub answered-short : (f : List ℕ) → length f < leastFrame → frameAnswer f ≡ refusedBy 2
 unfolding frameAnswer frameRow frameRows firstRow answerBy
-answered-short f h = rw (lt-ltb (length f) 96 h)
+answered-short f h = rw (lt-ltb (length f) leastFrame h)
 
-pub answered-long : (f : List ℕ) → 96 ≤ length f
+pub answered-long : (f : List ℕ) → leastFrame ≤ length f
     → frameAnswer f ≡ recordsAnswer (credentialAt f 0) (requestAt f requestStart) (length f)
 unfolding frameAnswer recordsAnswer frameRow recordRow frameRows firstRow fields
-answered-long f h = rw (le-ltb (length f) 96 h)
+answered-long f h = rw (le-ltb (length f) leastFrame h)
 
 both-zero : (a b : ℕ) → (a isnt 0 || b isnt 0) ≡ false → (a ≡ 0) × (b ≡ 0)
 both-zero a b e = (

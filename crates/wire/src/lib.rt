@@ -3,7 +3,7 @@ ghost use mathlib.Core.Path.{_≡_};
 ghost use Rattle.wire.specs.Parse.{operationNumber, firstNumber, secondNumber, numbersOf, answerOf, answerRow, frameAnswer};
 use rules::Operation;
 
-mod answer;
+mod outcome;
 mod reader;
 
 // A request that no row from 3 to 7 refuses. Its nonce is time and count; n is the data's length.
@@ -15,7 +15,7 @@ pub struct ParsedRequest {
     pub n: u32,
 }
 
-// The answer of the parse: the fields of both records, or the row that refuses the frame.
+// The answer of the parse: the fields of credential and request, or the row that refuses the frame.
 pub enum Parsed {
     Fields(rules::Credential, ParsedRequest),
     Refused(u32),
@@ -31,7 +31,7 @@ pub fn parse(frame: &[u8]) -> Parsed
     reader::walk(frame)
 }
 
-// The row that an answer tells, 0 with fields.
+// An answer's row, 0 with fields.
 pub fn row_of(p: Parsed) -> u32
     ensures { λ r. ⌜ r ≡ answerRow p ⌝ }
 {
@@ -85,18 +85,18 @@ fn second_number(o: Operation) -> u32
 }
 
 // A parsed request's numbers again.
-pub fn numbers(q: ParsedRequest) -> rules::Request
-    ensures { λ r. ⌜ r ≡ numbersOf q ⌝ }
+pub fn numbers(request: ParsedRequest) -> rules::Request
+    ensures { λ r. ⌜ r ≡ numbersOf request ⌝ }
 {
-    let o = q.operation;
+    let o = request.operation;
     rules::Request {
         magic: record_rows::REQUEST_MAGIC,
         operation: operation_number(o),
-        level: q.level,
-        time: q.time,
-        count: q.count,
+        level: request.level,
+        time: request.time,
+        count: request.count,
         A: first_number(o),
         B: second_number(o),
-        n: q.n,
+        n: request.n,
     }
 }

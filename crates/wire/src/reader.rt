@@ -1,5 +1,5 @@
-// A frame is walked by a reader: the lent bytes, and a position in them. Its functions are thin, and leave the work to
-// functions on the slice and the number.
+// A frame is walked by a reader: the lent bytes, and a position in them. Its functions take it apart and call those that
+// do the work on the slice and the position.
 ghost use mathlib.Core.Path.{_≡_};
 ghost use Prim.Native.Nat.{_+_, _≤_, _<_, _^_};
 ghost use lib.ListN.{length};
@@ -7,7 +7,7 @@ ghost use Rattle.rules.specs.Frame.{credentialSize, requestSize, requestStart, 
 ghost use Rattle.rules.specs.Rows.{leastFrame};
 ghost use Rattle.wire.specs.Parse.{answerOf, recordsAnswer};
 use crate::Parsed;
-use crate::answer;
+use crate::outcome;
 
 pub struct Reader<'a> {
     pub src: &'a [u8],
@@ -36,7 +36,7 @@ pub fn credential<'a>(r: Reader<'a>) -> rules::Credential
     requires { ⌜ r .at + credentialSize ≤ length (now (r .src)) ⌝ }
     ensures { λ c. ⌜ c ≡ credentialAt (now (r .entry .src)) (r .entry .at) ⌝ }
 {
-    answer::credential_at(r.src, r.at)
+    fields::credential_in(r.src, r.at)
 }
 
 // The request at the reader's position, behind the credential c: the fields of both, or a row.
@@ -44,7 +44,7 @@ pub fn request<'a>(r: Reader<'a>, c: rules::Credential) -> Parsed
     requires { ⌜ r .at + requestSize ≤ length (now (r .src)) ⌝ }
     ensures { λ p. ⌜ answerOf p ≡ recordsAnswer c (requestAt (now (r .entry .src)) (r .entry .at)) (length (now (r .entry .src))) ⌝ }
 {
-    answer::judge_at(r.src, r.at, c)
+    outcome::request_at(r.src, r.at, c)
 }
 
 // From a frame to its fields: its parameter is a plain slice, so whoever calls it needs no walk by hand.

@@ -9,7 +9,7 @@ use native.Mathlib.Nat.{suc-inj, suc-ne-zero}
 use native.Mathlib.Omega.{arith}
 use lib.ListN.{drop, getD, length, replicate, take}
 use borrow.Author.Tests.{ne-eqb}
-use Rattle.lemmas.specs.BigEndian.{bigEndian, digit, encode, numberAt}
+use Rattle.lemmas.specs.BigEndian.{bigEndian, digit, encode, numberAt, readAll}
 use Rattle.lemmas.specs.Lists.{change, every, find, keep, missing, pairs, part, same, some?, splice, update}
 use Rattle.lemmas.specs.RowTable.{firstRow, line, Row}
 use Rattle.lemmas.specs.Same.{same-refl}
@@ -243,7 +243,7 @@ keys-with b d m c h = go (row is 0) (row is 1)
 
 -- ---- all that the gate computes with, HMAC apart: `unfolding opened` opens it
 unfoldable pub opened : ℕ
-unfolding part splice same every some? pairs keep update find change missing firstRow numberAt digit bigEndian encode
+unfolding part splice same every some? pairs keep update find change missing firstRow numberAt digit bigEndian readAll encode
     credentialAt credentialBytes requestAt requestBytes fields covered operation entry memoryIndex soundObject
     soundPartition sound sameEntry refresh formatRows format spot free next gaps better bestOf bestFit keyIn
     signing credentialKey digestOf namedObject objectOf presentVersion extentStart placement placementStart head headed sealed

@@ -1,4 +1,4 @@
--- A refusal by `build-refused`; a grant joins the records, the data and their digest: `build-granted`.
+-- A refusal by `build-refused`; a grant joins credential, request, data and digest: `build-granted`.
 use mathlib.Core.Path.{_≡_, refl, sym, ap, _∙_}
 use mathlib.Core.List.{List}
 use Prim.Native.Nat.{ℕ}
@@ -36,7 +36,7 @@ returns-2 c =
     let a = t .before .before .before .before .before .before .before .args in
     build-granted (a .credential .now) (a .request .now) (a .bytes .now) (a .key .now) (a .space .now) (zero t) _ (c .before .before .before .before .before .frame-digest .result) _ refl refl
     (c .before .before .before .before .before .frame-digest .ensures
-    ∙ ap (λ (q : Request). hmac (a .key .now) (covered (q .level) (a .credential .now) (a .request .now) (a .bytes .now))) (c .before .before .before .before .before .before .request-of .ensures))
+    ∙ ap (λ (r : Request). hmac (a .key .now) (covered (r .level) (a .credential .now) (a .request .now) (a .bytes .now))) (c .before .before .before .before .before .before .request-in .ensures))
     (c .before .before .join .ensures)
 
 pub build-spec : {M : Type 1} → statement M

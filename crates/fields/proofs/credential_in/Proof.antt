@@ -1,23 +1,32 @@
--- `fields::credential_in` meets its contract, by whether the record is there.
-use mathlib.Core.Path.{sym, _∙_}
+-- `fields::credential_in` meets its contract: the numbers read by the layout are the credential's fields, and each fits its type.
+use mathlib.Core.Path.{ap, _∙_}
+use Prim.Native.Nat.{ℕ, _<_, _^_}
+use native.Mathlib.Omega.{arith}
+use lib.ListN.{getD}
 use borrow.Author.Needs.{needs}
-use borrow.Author.Tests.{leb-true, not-true, not-false}
+use Rattle.rules.specs.Frame.{credentialOf, credentialWidths}
+use Rattle.octets.specs.Fields.{fields-small}
+use Rattle.fields.specs.Records.{credential-read}
 use Rattle.fields.proofs.credential_in.Statement.{statement}
 use Rattle.fields.proofs.credential_in.Tie as tie
 
+small : (c : tie.After-v2) (k : ℕ) → getD (c .before .read .last .1 .1 .1 .0) k 0 < 256 ^ getD credentialWidths k 0
+small c k =
+    let z = c .before .before .before .before in
+    let a = z .before .args in
+    rw (c .before .read .ensures) (fields-small (a .s .now) (a .at) credentialWidths 12 (λ j. omega (arith, z .shared-slice-known .given j)) k)
+
 returns : tie.Need-returns
-returns c = rw (← c .before .fits2 .ensures, not-true (c .before .fits2 .result) (c .if1 .taken))
-
-credential-at-requires : tie.Need-credential-at-requires
-credential-at-requires c κs = leb-true _ _ (sym (c .before .fits2 .ensures) ∙ not-false _ (c .if1 .left))
-
-returns-2 : tie.Need-returns-2
-returns-2 c =
-    let b = c .before in
-    rw (← b .before .fits2 .ensures, not-false (b .before .fits2 .result) (b .if1 .left)) (c .credential-at .ensures)
+returns c =
+    let a = c .before .before .before .before .before .args in
+    ap credentialOf (c .before .read .ensures) ∙ credential-read (a .s .now) (a .at)
 
 pub credential-in-spec : {M : Type 1} → statement M
 credential-in-spec =
     tie.close
     (tie.spec
-    (λ c κs. search needs) returns credential-at-requires returns-2)
+    (λ c. search needs) (λ c. search needs) (λ c κs. search needs)
+    (λ c. search needs) (λ c. omega (arith, small c 0)) (λ c. search needs) (λ c. omega (arith, small c 1)) (λ c. search needs) (λ c. omega (arith, small c 2))
+    (λ c. search needs) (λ c. omega (arith, small c 3)) (λ c. search needs) (λ c. omega (arith, small c 4)) (λ c. search needs) (λ c. omega (arith, small c 5))
+    (λ c. search needs) (λ c. omega (arith, small c 6)) (λ c. search needs) (λ c. omega (arith, small c 7)) (λ c. search needs) (λ c. omega (arith, small c 8))
+    (λ c. search needs) (λ c. omega (arith, small c 9)) (λ c. search needs) (λ c. search needs) (λ c. omega (arith, small c 11)) returns)

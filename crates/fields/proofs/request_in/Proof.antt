@@ -1,25 +1,31 @@
--- `fields::request_in` meets its contract, by whether the record is there.
-use mathlib.Core.Path.{sym, _∙_}
+-- `fields::request_in` meets its contract: the numbers read by the layout are the request's fields, and each fits its type.
+use mathlib.Core.Path.{ap, _∙_}
+use Prim.Native.Nat.{ℕ, _<_, _^_}
+use native.Mathlib.Omega.{arith}
+use lib.ListN.{getD}
 use borrow.Author.Needs.{needs}
-use borrow.Author.Tests.{leb-true, not-true, not-false}
+use Rattle.rules.specs.Frame.{requestOf, requestWidths}
+use Rattle.octets.specs.Fields.{fields-small}
+use Rattle.fields.specs.Records.{request-read}
 use Rattle.fields.proofs.request_in.Statement.{statement}
 use Rattle.fields.proofs.request_in.Tie as tie
 
+small : (c : tie.After-v2) (k : ℕ) → getD (c .before .read .last .1 .1 .1 .0) k 0 < 256 ^ getD requestWidths k 0
+small c k =
+    let z = c .before .before .before .before in
+    let a = z .before .args in
+    rw (c .before .read .ensures) (fields-small (a .s .now) (a .at) requestWidths 8 (λ j. omega (arith, z .shared-slice-known .given j)) k)
+
 returns : tie.Need-returns
 returns c =
-    let b = c .before in
-    rw (← b .before .fits2 .ensures, not-true (b .before .fits2 .result) (b .if1 .taken)) (c .no-request .ensures)
-
-request-at-requires : tie.Need-request-at-requires
-request-at-requires c κs = leb-true _ _ (sym (c .before .fits2 .ensures) ∙ not-false _ (c .if1 .left))
-
-returns-2 : tie.Need-returns-2
-returns-2 c =
-    let b = c .before in
-    rw (← b .before .fits2 .ensures, not-false (b .before .fits2 .result) (b .if1 .left)) (c .request-at .ensures)
+    let a = c .before .before .before .before .before .args in
+    ap requestOf (c .before .read .ensures) ∙ request-read (a .s .now) (a .at)
 
 pub request-in-spec : {M : Type 1} → statement M
 request-in-spec =
     tie.close
     (tie.spec
-    (λ c κs. search needs) (λ c κs. tt) returns request-at-requires returns-2)
+    (λ c. search needs) (λ c. search needs) (λ c κs. search needs)
+    (λ c. search needs) (λ c. omega (arith, small c 0)) (λ c. search needs) (λ c. omega (arith, small c 1)) (λ c. search needs) (λ c. omega (arith, small c 2))
+    (λ c. search needs) (λ c. search needs) (λ c. omega (arith, small c 4)) (λ c. search needs) (λ c. omega (arith, small c 5)) (λ c. search needs) (λ c. omega (arith, small c 6))
+    (λ c. search needs) (λ c. omega (arith, small c 7)) returns)

@@ -1,22 +1,16 @@
 -- `octets::fits` meets its contract: a difference is compared in place of a sum.
-use mathlib.Core.Path.{_≡_, refl, sym}
-use mathlib.Core.Bool.{Bool, true, false}
-use Prim.Native.Nat.{ℕ, _+_, _-_, _≤_, _<_}
+use mathlib.Core.Path.{_≡_, sym}
+use mathlib.Core.Bool.{false}
+use Prim.Native.Nat.{ℕ, _+_, _-_, _<_}
 use native.Mathlib.Omega.{arith}
 use lib.Dec.{leb}
-use borrow.Author.Tests.{leb-true, leb-false, le-leb, lt-leb}
+use borrow.Author.Tests.{lt-leb}
+use Rattle.octets.proofs.FieldLaws.{moved}
 use Rattle.octets.proofs.fits.Statement.{statement}
 use Rattle.octets.proofs.fits.Tie as tie
 
 over : (len at n : ℕ) → len < n → leb (at + n) len ≡ false
 over len at n h = lt-leb (at + n) len (omega arith)
-
-moved : (len at n : ℕ) → n ≤ len → leb at (len - n) ≡ leb (at + n) len
-moved len at n h = go (leb at (len - n)) refl
-  where
-    go : (b : Bool) → leb at (len - n) ≡ b → b ≡ leb (at + n) len
-    go true e = sym (le-leb (at + n) len (omega (arith, leb-true at (len - n) e)))
-    go false e = sym (lt-leb (at + n) len (omega (arith, leb-false at (len - n) e)))
 
 returns : tie.Need-returns
 returns c = sym (over _ _ _ (c .if1 .taken))

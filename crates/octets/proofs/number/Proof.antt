@@ -1,22 +1,17 @@
 -- `octets::number` meets its contract, by whether the bytes are there.
 use mathlib.Core.Path.{sym, _∙_}
 use mathlib.Core.Bool.{not}
-use Prim.Native.Nat.{ℕ, zero, suc, _<_, _^_}
-use native.Mathlib.Nat.{pow-suc}
-use native.Mathlib.Omega.{arith}
+use Prim.Native.Nat.{ℕ}
 use lib.Dec.{ltb}
 use borrow.Author.Needs.{needs}
 use borrow.Author.Tests.{ltb-false, leb-true, not-false}
 use Rattle.lemmas.specs.Tests.{or-l, or-r}
+use Rattle.lemmas.specs.BigEndian.{power-positive}
 use Rattle.octets.proofs.number.Statement.{statement}
 use Rattle.octets.proofs.number.Tie as tie
 
-positive : (n : ℕ) → 0 < 256 ^ n
-positive zero = omega arith
-positive (suc n) = rw (pow-suc 256 n) (omega (arith, positive n))
-
 returns : tie.Need-returns
-returns c = (rw (← c .before .fits2 .ensures, c .if1 .taken), positive _)
+returns c = (rw (← c .before .fits2 .ensures, c .if1 .taken), power-positive _)
 
 number-at-requires : tie.Need-number-at-requires
 number-at-requires c κs =

@@ -1,4 +1,4 @@
--- `record_rows::bad_records` meets its contract, by the records' lengths.
+-- `record_rows::bad_records` meets its contract, by both lengths.
 use mathlib.Core.Bool.{not}
 use borrow.Author.Needs.{needs}
 use native.Mathlib.Omega.{arith}
@@ -7,6 +7,7 @@ use lib.ListN.{length}
 use borrow.Author.Tests.{eqb-true, not-false, le-leb}
 use Rattle.lemmas.specs.Tests.{or-l, or-r}
 use Rattle.rules.specs.Client.{badRecords}
+use Rattle.rules.specs.Frame.{credentialSize, requestSize}
 use Rattle.record_rows.proofs.bad_records.Statement.{statement}
 use Rattle.record_rows.proofs.bad_records.Tie as tie
 
@@ -20,10 +21,10 @@ returns-2 c =
     let b = c .before .before .before .before in
     let t = b .before .before .before in
     let a = t .before .before .before .args in
-    let short = not (eqb (length (a .credential .now)) 36) in
-    let other = not (eqb (length (a .request .now)) 28) in
-    let e = eqb-true (length (a .credential .now)) 36 (not-false _ (or-l short other (t .if1 .left))) in
-    let f = eqb-true (length (a .request .now)) 28 (not-false _ (or-r short other (t .if1 .left))) in
+    let short = not (eqb (length (a .credential .now)) credentialSize) in
+    let other = not (eqb (length (a .request .now)) requestSize) in
+    let e = eqb-true (length (a .credential .now)) credentialSize (not-false _ (or-l short other (t .if1 .left))) in
+    let f = eqb-true (length (a .request .now)) requestSize (not-false _ (or-r short other (t .if1 .left))) in
     rw (
       c .low-level .ensures,
       c .before .misfit .ensures,
@@ -32,8 +33,8 @@ returns-2 c =
       b .bad-magic .ensures,
       b .before .request-in .ensures,
       b .before .before .credential-in .ensures,
-      le-leb 28 (length (a .request .now)) (omega (arith, f)),
-      le-leb 36 (length (a .credential .now)) (omega (arith, e)),
+      le-leb requestSize (length (a .request .now)) (omega (arith, f)),
+      le-leb credentialSize (length (a .credential .now)) (omega (arith, e)),
       t .if1 .left,
     )
 

@@ -8,8 +8,8 @@ use borrow.Author.Needs.{needs}
 use Rattle.lemmas.specs.Lists.{part}
 use Rattle.lemmas.specs.RowTable.{firstRow}
 use Rattle.rules.specs.Client.{checkRows}
-use Rattle.rules.specs.Operations.{resultLength}
-use Rattle.fields.specs.Records.{requestOf}
+use Rattle.rules.specs.Operations.{headSize, resultLength}
+use Rattle.fields.specs.Records.{requestIn}
 use Rattle.reply_check.specs.Met.{CheckMet}
 use Rattle.reply_check.specs.CheckLaws.{check-end, check-granted, check-refused}
 use Rattle.reply_check.proofs.check.Statement.{statement}
@@ -20,8 +20,8 @@ zero : (t : tie.Then1) → let a = t .before .before .before .before .before .be
 zero t = sym (t .before .check-row .ensures) ∙ t .if1 .taken
 
 -- how long the result is
-long : (t : tie.After-result-length) → let a = t .before .before .before .before .before .before .before .before .args in t .result-length .result ≡ resultLength (requestOf (a .request .now))
-long t = t .result-length .ensures ∙ ap resultLength (t .before .request-of .ensures)
+long : (t : tie.After-result-length) → let a = t .before .before .before .before .before .before .before .before .args in t .result-length .result ≡ resultLength (requestIn (a .request .now) 0)
+long t = t .result-length .ensures ∙ ap resultLength (t .before .request-in .ensures)
 
 part-result-end : tie.Need-part-result-end
 part-result-end c = let a = c .before .before .before .before .before .before .before .before .args in omega (arith, check-end (a .credential .now) (a .request .now) (a .key .now) (a .reply .now) (zero (c .before .before)), long c)
@@ -31,7 +31,7 @@ unfolding part
 returns c =
     let a = c .before .before .before .before .before .before .before .before .before .args in
     let n = c .before .result-length .result in
-    let count : 8 + n - 8 ≡ n = omega arith in
+    let count : headSize + n - headSize ≡ n = omega arith in
     rw (c .before .before .before .if1 .taken, count) (check-granted (a .credential .now) (a .request .now) (a .key .now) (a .reply .now) (zero (c .before .before .before)) n (long (c .before)))
 
 returns-2 : tie.Need-returns-2

@@ -1,4 +1,4 @@
--- What is left of the reply is its last 32 bytes.
+-- What is left of the reply is its digest.
 use mathlib.Core.Path.{_≡_, sym, ap, _∙_}
 use mathlib.Core.Bool.{not}
 use mathlib.Core.List.{append-assoc}
@@ -8,6 +8,7 @@ use lib.ListN.{length, take, drop}
 use lib.Seq.{length-take-le}
 use borrow.Author.Needs.{needs}
 use Rattle.digest.specs.Hmac.{hmac}
+use Rattle.rules.specs.Frame.{digestSize}
 use Rattle.lemmas.specs.Lists.{part, same}
 use Rattle.reply_check.proofs.wrong_digest.Statement.{statement}
 use Rattle.reply_check.proofs.wrong_digest.Tie as tie
@@ -20,11 +21,11 @@ unfolding part
 returns c =
     let a = c .before .before .before .before .before .before .before .before .before .args in
     let right = c .before .before .before .of3 .result in
-    let e : length (a .reply .now) - a .n ≡ 32 = omega arith in
+    let e : length (a .reply .now) - a .n ≡ digestSize = omega arith in
     ap not
     (c .same .ensures
     ∙ ap (λ (k : ℕ). same (take k (drop (a .n) (a .reply .now))) right) e
-    ∙ ap (same (take 32 (drop (a .n) (a .reply .now))))
+    ∙ ap (same (take digestSize (drop (a .n) (a .reply .now))))
     (c .before .before .before .of3 .ensures ∙ ap (hmac (a .key .now)) (append-assoc (a .credential .now) (a .request .now) (take (a .n) (a .reply .now)))))
 
 pub wrong-digest-spec : {M : Type 1} → statement M

@@ -4,7 +4,10 @@ use mathlib.Core.Bool.{not}
 use lib.Dec.{eqb}
 use borrow.Author.Needs.{needs}
 use Rattle.lemmas.specs.RowTable.{firstRow}
+use Prim.Native.Nat.{_+_}
+use Rattle.rules.specs.Rows.{leastFrame}
 use Rattle.client.specs.ClientRows.{buildRow}
+use Rattle.client.specs.ClientLaws.{not-fits}
 use Rattle.record_rows.specs.BadRecords.{bad-either}
 use Rattle.client.proofs.rows.build_row.Statement.{statement}
 use Rattle.client.proofs.rows.build_row.Tie as tie
@@ -18,9 +21,10 @@ returns c =
       c .before .pick2 .ensures,
       c .before .before .before .bad-records .ensures,
       c .before .before .before .before .pick .ensures,
-      c .before .before .before .before .before .lacks-room .ensures,
-      c .before .before .before .before .before .before .request-of .ensures,
-      bad-either (a .credential .now) (a .request .now) (λ q. not (eqb (q .n) (a .n))),
+      c .before .before .before .before .before .fits2 .ensures,
+      not-fits (leastFrame + a .n) (a .space),
+      c .before .before .before .before .before .before .request-in .ensures,
+      bad-either (a .credential .now) (a .request .now) (λ r. not (eqb (r .n) (a .n))),
     )
     refl
 

@@ -2,6 +2,7 @@
 use mathlib.Core.Path.{_≡_}
 use lib.ListN.{length}
 use borrow.Author.Needs.{needs}
+use Rattle.rules.specs.Frame.{digestSize}
 use Rattle.client.specs.ClientLaws.{four-parts}
 use Rattle.client.proofs.rows.join.Statement.{statement}
 use Rattle.client.proofs.rows.join.Tie as tie
@@ -10,7 +11,7 @@ returns : tie.Need-returns
 returns c =
     let s = c .before .before .before .before .before .before .before .before .before .before .before .before .before .before .before .before .before .before .before .before .before in
     let a = s .args in
-    let long : length (a .digest .now) ≡ 32 = search needs in
+    let long : length (a .digest .now) ≡ digestSize = search needs in
     rw (
       c .before .before .copy-to4 .ensures,
       c .before .before .before .before .before .before .before .copy-to3 .ensures,

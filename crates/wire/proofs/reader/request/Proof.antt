@@ -1,4 +1,4 @@
--- `wire::reader::request` meets its contract: a walk of its MIR, by hand. The struct is taken apart, and `answer::judge_at` is called on the slice and the number.
+-- `wire::reader::request` meets its contract: a walk of its MIR, by hand. The struct is taken apart, and `outcome::request_at` is called on the slice and the number.
 use mathlib.Core.Path.{_≡_, refl}
 use Prim.Native.Nat.{_+_, _≤_, _<_, _^_}
 use mathlib.Core.List.{[], _∷_}
@@ -52,10 +52,10 @@ use Rattle.wire.proofs.Parsed as S
 use Rattle.wire.proofs.Parsed.Laws as S′
 use Rattle.rules.proofs.Credential as K
 use Rattle.rules.proofs.Credential.Laws as K′
-use Rattle.wire.proofs.answer.judge_at as core
-use Rattle.wire.proofs.answer.judge_at.Symbol as core-def
-use Rattle.wire.proofs.answer.judge_at.Symbol.{name as #wire·answer·judge-at}
-use Rattle.wire.proofs.answer.judge_at.Met as core-thm
+use Rattle.wire.proofs.outcome.request_at as core
+use Rattle.wire.proofs.outcome.request_at.Symbol as core-def
+use Rattle.wire.proofs.outcome.request_at.Symbol.{name as #wire·outcome·request-at}
+use Rattle.wire.proofs.outcome.request_at.Met as core-thm
 use Rattle.wire.proofs.reader.request.Key.{name as #wire·reader·request}
 use Rattle.wire.proofs.reader.request as request
 use Rattle.wire.proofs.reader.request.Statement as stated
@@ -144,7 +144,7 @@ module _ {M : Type 1} (𝓤 : URA M) (H : Heap 𝓤) (A : Atoms 𝓤) (W : Given
       suffices ! _ (ends-at 𝓤 H A request.ended stayed (request.clauses 𝓤 H A mem run) W (((κ, tt), (q, tt), tt, (d, (c, tt)), vals), tt) u r (tt, (tt, tt)) (tt, (tt, tt))) $ says ! e $
       move ! (1 ∷ []) $ frame ! $ move ! (1 ∷ []) $ split ! $ nothing ! $ move ! (2 ∷ 0 ∷ []) $ fjoin ! $ move ! (1 ∷ 0 ∷ []) $ fjoin ! $ frame ! $ done !
 
-  module _ (C : Calls 𝓤 H) (Λ : Loops 𝓤 H) (fm : FmC 𝓤 H (W .laws) C) (known : Triple 𝓤 (C #wire·answer·judge-at) (Core 𝓤 H A mem run)) where
+  module _ (C : Calls 𝓤 H) (Λ : Loops 𝓤 H) (fm : FmC 𝓤 H (W .laws) C) (known : Triple 𝓤 (C #wire·outcome·request-at) (Core 𝓤 H A mem run)) where
     walk : Holds (hasTy (T′.mir (named 0)) mach) × WT mach → Holds (hasTy K′.mir w) × WT w → ent 𝓤 (onEntry 𝓤 H A request.signature (κ, tt) (q, tt) (d, (c, tt)) vals) (WpFn 𝓤 H C Λ code.function (mach ∷ w ∷ []) Post)
     walk wt wc =
         qed W (raw (onEntry 𝓤 H A request.signature (κ, tt) (q, tt) (d, (c, tt)) vals) ∷ []) ∵ enter ! C Λ code.function (mach ∷ w ∷ []) _ $
@@ -162,13 +162,13 @@ module _ {M : Type 1} (𝓤 : URA M) (H : Heap 𝓤) (A : Atoms 𝓤) (W : Given
         move ! (11 ∷ 12 ∷ []) $ free1 ! $ move ! (9 ∷ 10 ∷ []) $ free1 ! $ move ! (7 ∷ 8 ∷ []) $ free1 ! $ move ! (5 ∷ 6 ∷ []) $ free1 ! $ move ! (3 ∷ 4 ∷ []) $ free1 ! $ free0 ! $ by ! (exits r u e))))))))))
 
 module _ {M : Type 1} (𝓤 : URA M) (H : Heap 𝓤) (A : Atoms 𝓤) (W : Given 𝓤 H A) (mem : Memory → SProp 𝓤) (run : Routine → Fun 𝓤) where
-  request-walks : (C : Calls 𝓤 H) (Λ : Loops 𝓤 H) → FmC 𝓤 H (W .laws) C → Triple 𝓤 (C #wire·answer·judge-at) (Core 𝓤 H A mem run)
+  request-walks : (C : Calls 𝓤 H) (Λ : Loops 𝓤 H) → FmC 𝓤 H (W .laws) C → Triple 𝓤 (C #wire·outcome·request-at) (Core 𝓤 H A mem run)
       → Walks 𝓤 H A request.ended stayed (WpFn 𝓤 H C Λ code.function) (request.clauses 𝓤 H A mem run)
   request-walks C Λ fm known = walked 𝓤 H A request.ended stayed (request.clauses 𝓤 H A mem run) (WpFn 𝓤 H C Λ code.function) (λ κs. (LL.vals (T.the-type (namedLft 1 0 tt κs)) (T′.the-laws (namedLft 1 0 tt κs)), (LL.vals K.the-type K′.the-laws, tt))) (λ κs. (LL.tells (T.the-type (namedLft 1 0 tt κs)) (T′.the-laws (namedLft 1 0 tt κs)), (LL.tells K.the-type K′.the-laws, tt)))
       (λ κs qs bounds a g are. needs 𝓤 _ _ (λ within. walk 𝓤 H A W mem run (κs .0) (qs .0) (a .0) (a .1 .0) within C Λ fm known (LL.lawful (T.the-type (namedLft 1 0 tt κs)) (T′.the-laws (namedLft 1 0 tt κs)) 𝓤 H A W .typed (a .0) _ (are .0) .0) (LL.lawful K.the-type K′.the-laws 𝓤 H A W .typed (a .1 .0) _ (are .1 .0) .0)))
 
 request-meets : {M : Type 1} (𝓤 : URA M) (H : Heap 𝓤) (A : Atoms 𝓤) (W : Given 𝓤 H A) (mem : Memory → SProp 𝓤) (run : Routine → Fun 𝓤) (𝓣 : Tables 𝓤 H)
-    → Triple 𝓤 (𝓣 .C #wire·answer·judge-at) (Core 𝓤 H A mem run)
+    → Triple 𝓤 (𝓣 .C #wire·outcome·request-at) (Core 𝓤 H A mem run)
     → Meets 𝓤 H A request.signature (WpFn 𝓤 H (𝓣 .C) (𝓣 .Λ) code.function) (request.spec 𝓤 H A mem run)
 request-meets 𝓤 H A W mem run 𝓣 known-core = walk-meets 𝓤 H A request.ended stayed W (goes-none 𝓤 H A W 1 B yes (λ κs x f. refl), (goes-none 𝓤 H A W 1 (λ _. K.the-row) yes (λ κs x f. refl), tt)) (request.clauses 𝓤 H A mem run) (WpFn 𝓤 H (𝓣 .C) (𝓣 .Λ) code.function) (WpFn-mono 𝓤 H (W .laws) 𝓣 code.function)
     (request-walks 𝓤 H A W mem run (𝓣 .C) (𝓣 .Λ) (fmOf 𝓤 H (W .laws) 𝓣) known-core)
@@ -179,4 +179,4 @@ request-spec 𝓤 H 𝓜 𝓖 𝓡 =
     entered 𝓤 H (tripleOf 𝓤 H (𝓖 .A) request.signature (request.spec 𝓤 H (𝓖 .A) (𝓜 .mem) (𝓡 .run)))
     (tables 𝓤 H 𝓜 𝓡 code.env .C) (tables 𝓤 H 𝓜 𝓡 code.env .Λ) #wire·reader·request code.function (code.unfolded 𝓤 H 𝓜 𝓡)
     (request-meets 𝓤 H (𝓖 .A) (givenOf 𝓤 H 𝓜 𝓖) (𝓜 .mem) (𝓡 .run) (tablesOf 𝓤 H 𝓜 (tables 𝓤 H 𝓜 𝓡 code.env))
-    (cited 𝓤 H (Core 𝓤 H (𝓖 .A) (𝓜 .mem) (𝓡 .run)) 𝓜 𝓡 code.env #wire·answer·judge-at core-def.routine code.calls-wire·answer·judge-at (core-thm.met 𝓤 H 𝓜 𝓖 𝓡)))
+    (cited 𝓤 H (Core 𝓤 H (𝓖 .A) (𝓜 .mem) (𝓡 .run)) 𝓜 𝓡 code.env #wire·outcome·request-at core-def.routine code.calls-wire·outcome·request-at (core-thm.met 𝓤 H 𝓜 𝓖 𝓡)))

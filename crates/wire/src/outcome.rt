@@ -1,21 +1,13 @@
-// The parse's answer from the bytes at a place: the credential there; the request there judged by rows 3 to 7, and its
-// operation given its own arguments. What is lent here is long enough: the parse sees to that.
+// What the parse answers from a credential and a request: the fields of both, the operation with its own arguments; or
+// the row, of 3 to 7, that refuses them.
 ghost use mathlib.Core.Path.{_≡_};
 ghost use Prim.Native.Nat.{_+_, _≤_};
 ghost use lib.ListN.{length};
-ghost use Rattle.rules.specs.Frame.{credentialSize, requestSize, credentialAt, requestAt};
+ghost use Rattle.rules.specs.Frame.{requestSize, requestAt};
 ghost use Rattle.wire.specs.Parse.{ArgumentsKept, operationNumber, firstNumber, secondNumber, answerOf, recordsAnswer};
 use crate::Parsed;
 use crate::ParsedRequest;
 use rules::Operation;
-
-// The credential that stands at place at.
-pub fn credential_at(s: &[u8], at: usize) -> rules::Credential
-    requires { ⌜ at + credentialSize ≤ length (now s) ⌝ }
-    ensures { λ r. ⌜ r ≡ credentialAt (now (s .entry)) at ⌝ }
-{
-    fields::credential_in(s, at)
-}
 
 // The operation numbered op, with those of A and B that it carries; the others are 0.
 fn operation_of(op: u8, a: u32, b: u32) -> Operation
@@ -39,31 +31,31 @@ fn operation_of(op: u8, a: u32, b: u32) -> Operation
     }
 }
 
-// The fields, or the row that refuses them.
-fn judge(c: rules::Credential, q: rules::Request, len: usize) -> Parsed
-    ensures { λ p. ⌜ answerOf p ≡ recordsAnswer c q len ⌝ }
+// The fields of both in a frame of len bytes, or the row that refuses them.
+fn fields_or_row(c: rules::Credential, r: rules::Request, len: usize) -> Parsed
+    ensures { λ p. ⌜ answerOf p ≡ recordsAnswer c r len ⌝ }
 {
-    let row = record_rows::record_row(c, q, len);
+    let row = record_rows::record_row(c, r, len);
     if row != 0 {
         return Parsed::Refused(row);
     }
-    let operation = operation_of(q.operation, q.A, q.B);
+    let operation = operation_of(r.operation, r.A, r.B);
     Parsed::Fields(
         c,
         ParsedRequest {
             operation,
-            level: q.level,
-            time: q.time,
-            count: q.count,
-            n: q.n,
+            level: r.level,
+            time: r.time,
+            count: r.count,
+            n: r.n,
         },
     )
 }
 
-// The request that stands at place at of the frame s, behind the credential c: the fields of both, or a row.
-pub fn judge_at(s: &[u8], at: usize, c: rules::Credential) -> Parsed
+// The same of the credential c and of the request that stands at place at of the frame s.
+pub fn request_at(s: &[u8], at: usize, c: rules::Credential) -> Parsed
     requires { ⌜ at + requestSize ≤ length (now s) ⌝ }
     ensures { λ p. ⌜ answerOf p ≡ recordsAnswer c (requestAt (now (s .entry)) at) (length (now (s .entry))) ⌝ }
 {
-    judge(c, fields::request_in(s, at), s.len())
+    fields_or_row(c, fields::request_in(s, at), s.len())
 }

@@ -1,10 +1,10 @@
--- `wire::answer::operation_of` meets its contract: in each arm, an argument that the operation does not carry is 0.
+-- `wire::outcome::operation_of` meets its contract: in each arm, an argument that the operation does not carry is 0.
 use Prim.Native.Nat.{ℕ, _≤_}
 use mathlib.Core.Path.{_≡_, refl, sym}
 use native.Mathlib.Omega.{arith}
 use borrow.Author.Needs.{needs}
-use Rattle.wire.proofs.answer.operation_of.Statement.{statement}
-use Rattle.wire.proofs.answer.operation_of.Tie as tie
+use Rattle.wire.proofs.outcome.operation_of.Statement.{statement}
+use Rattle.wire.proofs.outcome.operation_of.Tie as tie
 
 last : (op : ℕ) → 4 ≤ op → op ≤ 7 → (op ≡ 4 → ⊥) → (op ≡ 5 → ⊥) → (op ≡ 6 → ⊥) → op ≡ 7
 last op l h a b d = omega arith

@@ -1,0 +1,2 @@
+-- Laws for the loops over fields.
+mod FieldLaws
