@@ -1,3 +1,3 @@
--- What operations do to a partition and to its table.
+-- What operations make of a partition's table, which is what the rules make of the partition.
 pub mod Partition
 pub mod Applied
