@@ -1,4 +1,4 @@
--- One byte more of the text, and of the counting message: each stands at the end of what is there.
+-- One byte more of the text, and of the counting message: each is put at the end.
 use mathlib.Core.Path.{_≡_, refl, sym, ap, _∙_}
 use mathlib.Core.List.{List, [], _∷_, _++_, append-assoc}
 use Prim.Native.Nat.{ℕ, suc, _+_, _*_, _/_, _%_, _<_}

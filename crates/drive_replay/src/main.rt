@@ -6,7 +6,7 @@
 // `stdout` is what it expects.
 ghost use mathlib.Core.Path.{_≡_};
 ghost use lib.ListN.{length};
-ghost use Rattle.drive_replay.specs.Trace.{Fits};
+ghost use Rattle.drive_replay.specs.Trace.{headSize, mediumSize, bufferSize, Fits};
 use drive::Answer;
 use drive::Drive;
 use trace::Record;
@@ -14,35 +14,41 @@ use trace::Record;
 mod text;
 mod trace;
 
-// A proved loop has to end, and nothing says that the input does: after 2 to the 63 records it is given up.
-const MOST: u64 = 0x8000000000000000;
+// A proved loop has to end, and nothing says that the input does: after so many records the program gives up.
+const RECORD_LIMIT: u64 = 0x8000000000000000;
 
-// Between records: the drive, M, and the bytes of output that wait.
-struct Between {
-    drive: Drive,
-    size: usize,
-    waiting: usize,
-}
-
-// The medium, of at most 70,000 bytes, and the 8 behind it.
-fn medium_buffer() -> [u8; 70008]
-    ensures { λ r. ⌜ 70008 ≡ length r ⌝ }
-{
-    [0; 70008]
-}
+// The medium, and the bytes behind it.
+const MEDIUM_SIZE: usize = 70008;
 
 // A frame, or a reply space.
-fn frame_buffer() -> [u8; 70000]
-    ensures { λ r. ⌜ 70000 ≡ length r ⌝ }
-{
-    [0; 70000]
-}
+const BUFFER_SIZE: usize = 70000;
 
 // A format record; of a call record the bytes before its frame.
-fn head_buffer() -> [u8; 96]
-    ensures { λ r. ⌜ 96 ≡ length r ⌝ }
+const HEAD_SIZE: usize = 96;
+
+// The loop's state between two records: the drive, M, and how many bytes of output are not written yet.
+struct LoopState {
+    drive: Drive,
+    size: usize,
+    unwritten: usize,
+}
+
+fn medium_buffer() -> [u8; MEDIUM_SIZE]
+    ensures { λ r. ⌜ mediumSize ≡ length r ⌝ }
 {
-    [0; 96]
+    [0; MEDIUM_SIZE]
+}
+
+fn frame_buffer() -> [u8; BUFFER_SIZE]
+    ensures { λ r. ⌜ bufferSize ≡ length r ⌝ }
+{
+    [0; BUFFER_SIZE]
+}
+
+fn head_buffer() -> [u8; HEAD_SIZE]
+    ensures { λ r. ⌜ headSize ≡ length r ⌝ }
+{
+    [0; HEAD_SIZE]
 }
 
 fn fill(space: &mut [u8], x: u8) {
@@ -55,7 +61,7 @@ fn fill(space: &mut [u8], x: u8) {
 
 // A format's fill goes to medium and the bytes behind it, a call's to the reply space.
 fn prepare(r: Record, medium: &mut [u8], reply: &mut [u8])
-    requires { ⌜ Fits r × (length (now medium) ≡ 70008) × (length (now reply) ≡ 70000) ⌝ }
+    requires { ⌜ Fits r × (length (now medium) ≡ mediumSize) × (length (now reply) ≡ bufferSize) ⌝ }
 {
     if r.kind == trace::FORMAT {
         let end = r.size + trace::BEHIND;
@@ -75,7 +81,7 @@ fn answer(
     frame: &[u8],
     reply: &mut [u8],
 ) -> Answer
-    requires { ⌜ Fits r × (length (now head) ≡ 96) × (length (now medium) ≡ 70008) × (length (now frame) ≡ 70000) × (length (now reply) ≡ 70000) ⌝ }
+    requires { ⌜ Fits r × (length (now head) ≡ headSize) × (length (now medium) ≡ mediumSize) × (length (now frame) ≡ bufferSize) × (length (now reply) ≡ bufferSize) ⌝ }
 {
     let lent = r.lent;
     if r.kind == trace::FORMAT {
@@ -110,48 +116,48 @@ fn put_line(
     out: &mut [u8],
     at: usize,
 ) -> usize
-    requires { ⌜ Fits r × (length (now medium) ≡ 70008) × (length (now reply) ≡ 70000) ⌝ }
+    requires { ⌜ Fits r × (length (now medium) ≡ mediumSize) × (length (now reply) ≡ bufferSize) ⌝ }
 {
     let end = r.size + trace::BEHIND;
     let space = r.space;
     text::put_line(out, at, row, replied, &reply[..space], &medium[..end])
 }
 
-// One record, and its line.
-fn turn(
-    t: Between,
+// Replays one record and puts its line.
+fn replay(
+    t: LoopState,
     r: Record,
     head: &[u8],
     medium: &mut [u8],
     frame: &[u8],
     reply: &mut [u8],
     out: &mut [u8],
-) -> Between
-    requires { ⌜ Fits r × (length (now head) ≡ 96) × (length (now medium) ≡ 70008) × (length (now frame) ≡ 70000) × (length (now reply) ≡ 70000) ⌝ }
+) -> LoopState
+    requires { ⌜ Fits r × (length (now head) ≡ headSize) × (length (now medium) ≡ mediumSize) × (length (now frame) ≡ bufferSize) × (length (now reply) ≡ bufferSize) ⌝ }
 {
     let d = t.drive;
     prepare(r, medium, reply);
     let a = answer(d, r, head, medium, frame, reply);
-    let waiting = put_line(r, a.row, a.length, medium, reply, out, t.waiting);
+    let unwritten = put_line(r, a.row, a.length, medium, reply, out, t.unwritten);
     let drive = a.drive;
-    Between {
+    LoopState {
         drive,
         size: r.size,
-        waiting,
+        unwritten,
     }
 }
 
-// What waits is written; after a record that is none with `cut` behind it.
-fn finish(out: &mut [u8], waiting: usize, kind: u8) {
+// Writes what is not written yet, and behind it the line `cut` where the input did not end after a record.
+fn finish(out: &mut [u8], unwritten: usize, kind: u8) {
     if kind == trace::END {
-        text::flush(out, waiting);
+        text::flush(out, unwritten);
         return;
     }
-    let n = text::put_text(out, waiting, b"cut\n");
+    let n = text::put_text(out, unwritten, b"cut\n");
     text::flush(out, n);
 }
 
-// Record after record.
+// Replays the records of the input until it ends.
 fn run(
     drive: Drive,
     head: &mut [u8],
@@ -160,27 +166,27 @@ fn run(
     reply: &mut [u8],
     out: &mut [u8],
 )
-    requires { ⌜ (length (now head) ≡ 96) × (length (now medium) ≡ 70008) × (length (now frame) ≡ 70000) × (length (now reply) ≡ 70000) ⌝ }
+    requires { ⌜ (length (now head) ≡ headSize) × (length (now medium) ≡ mediumSize) × (length (now frame) ≡ bufferSize) × (length (now reply) ≡ bufferSize) ⌝ }
 {
-    let mut t = Between {
+    let mut t = LoopState {
         drive,
         size: 0,
-        waiting: 0,
+        unwritten: 0,
     };
-    let mut left = MOST;
+    let mut left = RECORD_LIMIT;
     while left > 0 {
         left -= 1;
         let r = trace::next(t.size, head, frame);
         if r.kind >= trace::END {
-            finish(out, t.waiting, r.kind);
+            finish(out, t.unwritten, r.kind);
             return;
         }
-        t = turn(t, r, head, medium, frame, reply, out);
+        t = replay(t, r, head, medium, frame, reply, out);
     }
-    finish(out, t.waiting, trace::CUT);
+    finish(out, t.unwritten, trace::CUT);
 }
 
-// Before the first record the drive is that of a format refused.
+// Until the first record formats it, the drive is the one that a refused format leaves.
 fn main() {
     let mut head = head_buffer();
     let mut medium = medium_buffer();

@@ -1,6 +1,6 @@
-// The output, gathered: the first `at` bytes of out wait to be written. Each function answers how many wait after it.
+// The output, gathered in a buffer: the first `at` bytes of out are not written yet. Each function returns how many are not
+// written after it.
 ghost use Prim.Native.Nat.{_<_};
-ghost use Rattle.io.specs.Counts.{Counts};
 use libc::STDOUT_FILENO;
 
 // A full buffer is written before the next byte goes in.
@@ -88,16 +88,8 @@ pub fn put_line(
     put_byte(out, n, b'\n')
 }
 
-// n, or how many bytes there are where they are fewer.
-fn most(n: usize, bytes: &[u8]) -> usize
-    ensures { λ r. ⌜ Counts r (now (bytes .entry)) ⌝ }
-{
-    let all = bytes.len();
-    if n < all { n } else { all }
-}
-
-// Writes what waits.
+// Writes the bytes that are not written yet.
 pub fn flush(out: &[u8], at: usize) {
-    let n = most(at, out);
+    let n = lemmas::smaller(at, out.len());
     io::write_all(STDOUT_FILENO, &out[..n]);
 }

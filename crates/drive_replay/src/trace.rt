@@ -2,10 +2,10 @@
 ghost use mathlib.Core.Path.{_≡_};
 ghost use Prim.Native.Nat.{_≤_};
 ghost use lib.ListN.{length};
-ghost use Rattle.drive_replay.specs.Trace.{Fits};
+ghost use Rattle.drive_replay.specs.Trace.{headSize, bufferSize, Fits};
 use libc::STDIN_FILENO;
 
-// What stands next on the input: a format or a call that fits the buffers, nothing, or anything else.
+// What comes next in the input: a format or a call that fits the buffers, nothing, or anything else.
 pub const FORMAT: u8 = 1;
 
 pub const CALL: u8 = 2;
@@ -14,10 +14,10 @@ pub const END: u8 = 3;
 
 pub const CUT: u8 = 4;
 
-// The most bytes that a frame, a reply space or M has.
-const MOST: usize = 70000;
+// The largest frame, reply space and M, and the longest key.
+const SIZE_LIMIT: usize = 70000;
 
-const MOST_KEY: usize = 40;
+const KEY_LIMIT: usize = 40;
 
 // The bytes behind the medium that are filled and printed with it.
 pub const BEHIND: usize = 8;
@@ -37,7 +37,7 @@ pub struct Record {
     pub space: usize,
 }
 
-// No record.
+// No record: the end of the input, or anything else.
 fn nothing(kind: u8) -> Record
     ensures { λ r. ⌜ Fits r ⌝ }
 {
@@ -96,16 +96,16 @@ fn larger(a: usize, b: usize) -> usize
 fn fitting(r: Record) -> Record
     ensures { λ q. ⌜ Fits q ⌝ }
 {
-    if r.size > MOST {
+    if r.size > SIZE_LIMIT {
         return nothing(CUT);
     }
     if r.lent > r.size + BEHIND {
         return nothing(CUT);
     }
-    if larger(r.master, r.key) > MOST_KEY {
+    if larger(r.master, r.key) > KEY_LIMIT {
         return nothing(CUT);
     }
-    if larger(r.frame, r.space) > MOST {
+    if larger(r.frame, r.space) > SIZE_LIMIT {
         return nothing(CUT);
     }
     r
@@ -113,7 +113,7 @@ fn fitting(r: Record) -> Record
 
 // A format, whose first 32 bytes have been read into head.
 fn next_format(head: &mut [u8]) -> Record
-    requires { ⌜ length (now head) ≡ 96 ⌝ }
+    requires { ⌜ length (now head) ≡ headSize ⌝ }
     ensures { λ r. ⌜ Fits r ⌝ }
 {
     let got = io::read_full(STDIN_FILENO, &mut head[32..]);
@@ -126,7 +126,7 @@ fn next_format(head: &mut [u8]) -> Record
 
 // A call, whose first 32 bytes have been read into head. Its frame goes to the start of frame.
 fn next_call(size: usize, head: &[u8], frame: &mut [u8]) -> Record
-    requires { ⌜ length (now frame) ≡ 70000 ⌝ }
+    requires { ⌜ length (now frame) ≡ bufferSize ⌝ }
     ensures { λ r. ⌜ Fits r ⌝ }
 {
     let c = call_in(head, size);
@@ -141,7 +141,7 @@ fn next_call(size: usize, head: &[u8], frame: &mut [u8]) -> Record
 
 // Reads the next record; M is now `size`.
 pub fn next(size: usize, head: &mut [u8], frame: &mut [u8]) -> Record
-    requires { ⌜ (length (now head) ≡ 96) × (length (now frame) ≡ 70000) ⌝ }
+    requires { ⌜ (length (now head) ≡ headSize) × (length (now frame) ≡ bufferSize) ⌝ }
     ensures { λ r. ⌜ Fits r ⌝ }
 {
     let got = io::read_full(STDIN_FILENO, &mut head[..32]);

@@ -1,88 +1,108 @@
--- What the program's functions on slices leave. input: bytes that have arrived and are not answered.
+-- What the program's functions promise. input: bytes that have arrived and are not answered.
 use mathlib.Core.Path.{_≡_, refl, sym, ap, subst, _∙_}
 use mathlib.Core.Bool.{Bool, true, false, cond}
 use mathlib.Core.List.{List}
-use Prim.Native.Nat.{ℕ, _+_, _-_, _≤_, _<_}
+use Prim.Native.Nat.{ℕ, _+_, _-_, _^_, _≤_, _<_}
 use native.Mathlib.Omega.{arith}
 use lib.ListN.{length, take, drop, length-drop}
 use lib.Seq.{take-all, take-add, drop-at, drop-drop, length-take-le}
 use Rattle.lemmas.specs.Lists.{part}
 use Rattle.rules.specs.Program.{recordHead, frameLength, callIn, broken}
 use Rattle.rules.specs.Demands.{State}
-use Rattle.record.specs.Arrival.{wrong}
-use Rattle.record.specs.Arriving.{facts-of-short, facts-when-broken}
+use Rattle.record.specs.Arrival.{malformed}
+use Rattle.record.specs.ArrivalLaws.{facts-of-short, facts-when-broken}
+use Rattle.gate.specs.declared.Batch.{Batch}
+use Rattle.gate.specs.declared.InputRecord.{InputRecord}
+use Rattle.gate.specs.declared.LoopState.{LoopState}
+use Rattle.gate.specs.declared.Pending.{Pending}
+use Rattle.gate.specs.declared.Progress.{Progress}
+use Rattle.gate.specs.declared.Refilled.{Refilled}
+use Rattle.gate.specs.Answered.{stateOf}
 use Rattle.gate.specs.Printed.{Printed}
 
--- the record at the start of input: its clock, and its size with the head; both 0 where it is not whole
-pub record NextMet (input : List ℕ) (clock size : ℕ) : Type 0 where
-  pub reading : clock ≡ cond (broken input) 0 (callIn input .clock)
-  pub counted : size ≡ cond (broken input) 0 (recordHead + frameLength input)
+-- ---- sizes, in bytes: the longest frame in an input record, the input buffer, a reply space, the longest line
+abbrev pub longestFrame : ℕ
+longestFrame = 65_536
+
+abbrev pub inputSize : ℕ
+inputSize = 131_086
+
+abbrev pub replySize : ℕ
+replySize = 65_536
+
+abbrev pub lineSize : ℕ
+lineSize = 64
+
+-- no more bytes are read
+abbrev pub inputLimit : ℕ
+inputLimit = 2 ^ 63
+
+-- ---- the input record at the start of input: its clock, and its size with the head; both 0 where it is not whole
+pub record WholeRecordMet (input : List ℕ) (r : InputRecord) : Type 0 where
+  pub reading : r .clock ≡ cond (broken input) 0 (callIn input .clock)
+  pub counted : r .size ≡ cond (broken input) 0 (recordHead + frameLength input)
   -- it lies within input
-  pub within : size ≤ length input
+  pub within : r .size ≤ length input
 
--- from state s after `calls` calls the first `taken` bytes of input are answered, which leads to state s′ after n
--- calls; the first `put` bytes of out are the text that the program prints of them, whatever comes later
-pub record AnswerMet (s : State) (calls : ℕ) (input : List ℕ) (s′ : State) (n taken put : ℕ) (out : List ℕ)
-    : Type 0 where
-  pub said : Printed s calls input s′ n taken (take put out)
-  pub more : calls ≤ n
-  pub counted : n ≤ calls + taken
-  pub within : taken ≤ length input
-  pub fits : put ≤ length out
+-- ---- from state s after `calls` calls the first bytes of input are answered, with this medium after it; the start of
+-- out is the text that the program prints of them, whatever comes later
+pub record AnswerRecordsMet (s : State) (calls : ℕ) (input : List ℕ) (r : Batch) (medium out : List ℕ) : Type 0 where
+  pub text : Printed s calls input (stateOf (r .drive) medium) (r .calls) (r .taken) (take (r .put) out)
+  pub more : calls ≤ r .calls
+  pub counted : r .calls ≤ calls + r .taken
+  pub within : r .taken ≤ length input
+  pub fits : r .put ≤ length out
   -- where nothing is taken there is no whole record
-  pub stuck : taken ≡ 0 → broken input ≡ true
+  pub stuck : r .taken ≡ 0 → broken input ≡ true
 
--- what all rounds over input leave: where the output is still taken, no whole record
-pub record DrainMet (input : List ℕ) (calls taken n : ℕ) (alive : Bool) : Type 0 where
-  pub within : taken ≤ length input
-  pub counted : n ≤ calls + taken
-  pub all : alive ≡ true → broken (drop taken input) ≡ true
+-- ---- all batches over input: where the output could be written, no whole record is left
+pub record DrainMet (input : List ℕ) (calls : ℕ) (r : Progress) : Type 0 where
+  pub within : r .taken ≤ length input
+  pub counted : r .calls ≤ calls + r .taken
+  pub all : r .written ≡ true → broken (drop (r .taken) input) ≡ true
 
--- of the input buffer those bytes from `from` up to `to` have arrived and are not taken: less than a record
-abbrev pub bufferSize : ℕ
-bufferSize = 131_086
+-- ---- the pending bytes lie within the input buffer, and are fewer than the longest record has
+abbrev pub PendingFits : Pending → Type 0
+PendingFits p = (p .from ≤ p .to) × (p .to ≤ inputSize) × (p .to < p .from + (recordHead + longestFrame))
 
-abbrev pub InBuffer : ℕ → ℕ → Type 0
-InBuffer from to = (from ≤ to) × (to ≤ bufferSize) × (to < from + (recordHead + 65_536))
+-- they have moved from p to r, and there is room behind them
+pub record MakeRoomMet (buf : List ℕ) (p : Pending) (buf′ : List ℕ) (r : Pending) : Type 0 where
+  pub order : r .from ≤ r .to
+  pub count : r .to + p .from ≡ p .to + r .from
+  pub room : r .to < length buf
+  pub same : part buf′ (r .from) (p .to - p .from) ≡ part buf (p .from) (p .to - p .from)
 
--- they now stand from `from′` up to `to′`, and some room is left behind them
-pub record RoomMet (buf : List ℕ) (from to : ℕ) (buf′ : List ℕ) (from′ to′ : ℕ) : Type 0 where
-  pub order : from′ ≤ to′
-  pub count : to′ + from ≡ to + from′
-  pub room : to′ < length buf
-  pub same : part buf′ from′ (to - from) ≡ part buf from (to - from)
+-- a read has put r .count bytes behind them
+pub record RefillMet (p : Pending) (r : Refilled) : Type 0 where
+  pub order : r .from ≤ r .to
+  pub count : r .to + p .from ≡ p .to + r .from + r .count
+  pub within : r .to ≤ inputSize
 
--- a read has put `more` bytes behind them
-pub record FetchMet (from to from′ to′ more : ℕ) : Type 0 where
-  pub order : from′ ≤ to′
-  pub count : to′ + from ≡ to + from′ + more
-  pub within : to′ ≤ bufferSize
+-- ---- between two reads: there have been no more calls than bytes that were read and answered
+abbrev pub LoopInvariant : LoopState → Type 0
+LoopInvariant t = PendingFits (t .pending) × (t .calls + t .pending .to ≤ t .received + t .pending .from)
 
--- between turns: no more calls than bytes that were read and taken, of all that were read
-abbrev pub BetweenReads : ℕ → ℕ → ℕ → ℕ → Type 0
-BetweenReads calls seen from to = InBuffer from to × (calls + to ≤ seen + from)
+-- ---- laws: the size shows whether there is a whole record
+pub none-whole : (s : List ℕ) → broken s ≡ true → WholeRecordMet s (record { clock = 0; size = 0 })
+none-whole s b = record { reading = rw b refl; counted = rw b refl; within = omega arith }
 
--- ---- laws: the size tells whether there is a whole record
-pub next-none : (s : List ℕ) → broken s ≡ true → NextMet s 0 0
-next-none s b = record { reading = rw b refl; counted = rw b refl; within = omega arith }
-
-pub next-stuck : (s : List ℕ) (clock size : ℕ) → NextMet s clock size → size ≡ 0 → broken s ≡ true
-next-stuck s clock size m z = go (broken s) refl (m .counted)
+pub size-zero : (s : List ℕ) (r : InputRecord) → WholeRecordMet s r → r .size ≡ 0 → broken s ≡ true
+size-zero s r m z = go (broken s) refl (m .counted)
   where
-    go : (b : Bool) → broken s ≡ b → size ≡ cond b 0 (recordHead + frameLength s) → broken s ≡ true
+    go : (b : Bool) → broken s ≡ b → r .size ≡ cond b 0 (recordHead + frameLength s) → broken s ≡ true
     go true e k = e
     go false e k = absurd (omega (arith, z, k))
 
-pub next-whole : (s : List ℕ) (clock size : ℕ) → NextMet s clock size → (size ≡ 0 → ⊥)
-    → (broken s ≡ false) × (recordHead ≤ size)
-next-whole s clock size m z = go (broken s) refl (m .counted)
+pub size-some : (s : List ℕ) (r : InputRecord) → WholeRecordMet s r → (r .size ≡ 0 → ⊥)
+    → (broken s ≡ false) × (recordHead ≤ r .size)
+size-some s r m z = go (broken s) refl (m .counted)
   where
-    go : (b : Bool) → broken s ≡ b → size ≡ cond b 0 (recordHead + frameLength s)
-        → (broken s ≡ false) × (recordHead ≤ size)
+    go : (b : Bool) → broken s ≡ b → r .size ≡ cond b 0 (recordHead + frameLength s)
+        → (broken s ≡ false) × (recordHead ≤ r .size)
     go true e k = absurd (z k)
     go false e k = (e, omega (arith, k))
 
--- ---- laws: the bytes behind those taken
+-- ---- laws: the bytes after those taken
 abbrev pub rest : List ℕ → ℕ → List ℕ
 rest input taken = take (length input - taken) (drop taken input)
 
@@ -105,11 +125,11 @@ part-rest s from to taken h l =
     ∙ drop-at (take taken d) (take k (drop taken d)) taken (length-take-le taken d long)
     ∙ ap (λ (x : List ℕ). take k x) (drop-drop taken from s)
 
--- what is left after a turn is less than a record: no whole one, and not wrong
+-- input that is neither whole nor malformed is shorter than the longest record
 pub left-short : (s : List ℕ) (from to taken : ℕ) → from + taken ≤ to → to ≤ length s
     → broken (drop taken (take (to - from) (drop from s))) ≡ true
-    → wrong (take (to - (from + taken)) (drop (from + taken) s)) ≡ false
-    → to < from + taken + (recordHead + 65_536)
+    → malformed (take (to - (from + taken)) (drop (from + taken) s)) ≡ false
+    → to < from + taken + (recordHead + longestFrame)
 left-short s from to taken h l b w =
     let r : List ℕ = take (to - (from + taken)) (drop (from + taken) s) in
     let b′ : broken r ≡ true = subst (λ (x : List ℕ). broken x ≡ true) (part-rest s from to taken h l) b in

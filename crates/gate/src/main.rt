@@ -1,115 +1,120 @@
-// The program `gate` (document 01, "Client end"): puts each record of standard input to the gate of a freshly formatted
-// drive, and prints a line for each. Whatever records have arrived whole are answered, and their lines written, before
-// it waits for more; it reads and writes by buffers, and its memory does not grow with the input.
+// The program `gate` (document 01, "Client end"): puts each input record of standard input to the gate of a freshly
+// formatted drive, and prints a line for each. All records that have arrived whole are answered, and their lines
+// written, before it waits for more; it reads and writes by buffers, and its memory does not grow with the input.
 ghost use mathlib.Core.Path.{_≡_};
 ghost use mathlib.Core.Bool.{true, false, cond};
 ghost use Prim.Native.Nat.{_+_, _-_, _≤_, _<_, _^_};
-ghost use lib.ListN.{length, drop};
+ghost use lib.ListN.{length};
 ghost use Rattle.lemmas.specs.Lists.{part, splice};
 ghost use Rattle.rules.specs.Program.{cut};
 ghost use Rattle.rules.specs.Program.{ended as Program·ended};
 ghost use Rattle.lines.specs.Text.{TextPut};
 ghost use Rattle.gate.specs.Answered.{stateOf};
-ghost use Rattle.gate.specs.Promises.{NextMet, AnswerMet, DrainMet, InBuffer, RoomMet, FetchMet, BetweenReads};
+ghost use Rattle.gate.specs.Promises.{inputSize, lineSize, replySize, inputLimit, WholeRecordMet, AnswerRecordsMet, DrainMet, PendingFits, MakeRoomMet, RefillMet, LoopInvariant};
 use drive::Answer;
 use libc::STDIN_FILENO;
 use libc::STDOUT_FILENO;
 use record::Arrived;
 
-// The bytes held move to the front of the input buffer where less than this is free behind them.
-const READ: usize = 65536;
+// The pending bytes move to the front of the input buffer where less than this is free behind them.
+const READ_SIZE: usize = 65536;
 
-// The longest line has 63 bytes.
-const LINE: usize = 64;
+// The longest input record, and a whole read behind it.
+const INPUT_SIZE: usize = 131086;
 
-// A proved loop has to end, and nothing says that the input does: after 2 to the 63 bytes it is given up.
-const MOST: u64 = 0x8000000000000000;
+// No line is longer.
+const LINE_SIZE: usize = 64;
 
-// A whole record that has arrived: its clock and its size in bytes, head and frame; or size 0 where none has.
-struct Whole {
+// A proved loop has to end, and nothing says that the input does: after so many bytes the program gives up.
+const INPUT_LIMIT: u64 = 0x8000000000000000;
+
+// A whole input record: its clock and its size in bytes, head and frame; size 0 where there is none.
+struct InputRecord {
     clock: u64,
     size: usize,
 }
 
-// What one round of answers leaves: the drive, the bytes of input that it took, the calls so far, the bytes of out that
-// it put.
-struct Served {
+// The answers whose lines fit into the output buffer: the drive after them, how many bytes of input they took, how many
+// calls there have been, how many bytes of the output buffer the lines fill.
+struct Batch {
     drive: drive::Drive,
     taken: usize,
     calls: u64,
     put: usize,
 }
 
-// What all rounds over some input leave, and whether somebody still takes the output.
-struct Drained {
+// All answers to some input: the drive after them, how many bytes of the input they took, how many calls there have
+// been, and whether the output could be written.
+struct Progress {
     drive: drive::Drive,
     taken: usize,
     calls: u64,
-    alive: bool,
+    written: bool,
 }
 
-// The bytes of the input buffer that have not been taken: those from `from` up to `to`.
-struct Rest {
+// The pending input: the bytes of the input buffer from `from` up to `to`, which have been read and not answered.
+struct Pending {
     from: usize,
     to: usize,
 }
 
 // How many bytes a read brought, 0 at the end of the input; and whether it failed.
-struct Got {
+struct ReadResult {
     count: usize,
     failed: bool,
 }
 
-// The bytes that have not been taken after a read, and how many of them it brought.
-struct Fetched {
+// The pending input after a read, how many bytes the read brought, and whether it failed.
+struct Refilled {
     from: usize,
     to: usize,
     count: usize,
     failed: bool,
 }
 
-// Between turns: the drive, the calls so far, the bytes read so far, those not taken, and whether to go on.
-struct Between {
+// The loop's state between two reads: the drive, how many calls there have been, how many bytes were read, the pending
+// input, and whether to go on.
+struct LoopState {
     drive: drive::Drive,
     calls: u64,
-    seen: u64,
-    rest: Rest,
-    go: bool,
+    received: u64,
+    pending: Pending,
+    running: bool,
 }
 
-// Room for one whole record and a read of 64 KiB behind it.
-fn input_buffer() -> [u8; 131086]
-    ensures { λ r. ⌜ 131086 ≡ length r ⌝ }
+fn input_buffer() -> [u8; INPUT_SIZE]
+    ensures { λ r. ⌜ inputSize ≡ length r ⌝ }
 {
-    [0; 131086]
+    [0; INPUT_SIZE]
 }
 
-fn whole_record(input: &[u8]) -> Whole
-    ensures { λ r. ⌜ NextMet (now (input .entry)) (r .clock) (r .size) ⌝ }
+// The input record at the start of input.
+fn whole_record(input: &[u8]) -> InputRecord
+    ensures { λ r. ⌜ WholeRecordMet (now (input .entry)) r ⌝ }
 {
     let a = record::arrival(input);
     match a {
-        Arrived::Whole { clock, size } => Whole {
+        Arrived::Whole { clock, size } => InputRecord {
             clock,
             size: record::HEAD_SIZE + size,
         },
-        Arrived::Broken => Whole { clock: 0, size: 0 },
-        Arrived::Short => Whole { clock: 0, size: 0 },
+        Arrived::Malformed => InputRecord { clock: 0, size: 0 },
+        Arrived::Short => InputRecord { clock: 0, size: 0 },
     }
 }
 
-// Answers the whole records at the start of input, in order, and puts their lines at the start of out, while there is
-// room for one.
-fn serve(
+// Answers the whole records at the start of input, in order, and puts their lines at the start of out, as long as one
+// more line has room there.
+fn answer_records(
     drive: drive::Drive,
     medium: &mut [u8],
     input: &[u8],
     calls: u64,
     reply: &mut [u8],
     out: &mut [u8],
-) -> Served
-    requires { ⌜ (calls + length (now input) < 2 ^ 64) × (64 ≤ length (now out)) × (length (now reply) ≡ 65536) ⌝ }
-    ensures { λ r. ⌜ AnswerMet (stateOf drive (now (medium .entry))) calls (now (input .entry)) (stateOf (r .drive) (now (medium .exit))) (r .calls) (r .taken) (r .put) (now (out .exit)) ⌝ }
+) -> Batch
+    requires { ⌜ (calls + length (now input) < 2 ^ 64) × (lineSize ≤ length (now out)) × (length (now reply) ≡ replySize) ⌝ }
+    ensures { λ r. ⌜ AnswerRecordsMet (stateOf drive (now (medium .entry))) calls (now (input .entry)) r (now (medium .exit)) (now (out .exit)) ⌝ }
 {
     let mut a = Answer {
         row: 0,
@@ -119,7 +124,7 @@ fn serve(
     let mut taken: usize = 0;
     let mut n = calls;
     let mut put: usize = 0;
-    while out.len() - put >= LINE {
+    while out.len() - put >= LINE_SIZE {
         let w = whole_record(&input[taken..]);
         let size = w.size;
         if size == 0 {
@@ -134,7 +139,7 @@ fn serve(
         put = lines::put_line(out, put, n, a.row, a.length);
     }
     let d = a.drive;
-    Served {
+    Batch {
         drive: d,
         taken,
         calls: n,
@@ -142,7 +147,7 @@ fn serve(
     }
 }
 
-// Answers all the whole records at the start of input, and writes their lines, a buffer at a time.
+// Answers all whole records at the start of input, and writes their lines, a batch at a time.
 fn drain(
     drive: drive::Drive,
     medium: &mut [u8],
@@ -150,26 +155,26 @@ fn drain(
     calls: u64,
     reply: &mut [u8],
     out: &mut [u8],
-) -> Drained
-    requires { ⌜ (calls + length (now input) < 2 ^ 64) × (64 ≤ length (now out)) × (length (now reply) ≡ 65536) ⌝ }
-    ensures { λ r. ⌜ DrainMet (now (input .entry)) calls (r .taken) (r .calls) (r .alive) ⌝ }
+) -> Progress
+    requires { ⌜ (calls + length (now input) < 2 ^ 64) × (lineSize ≤ length (now out)) × (length (now reply) ≡ replySize) ⌝ }
+    ensures { λ r. ⌜ DrainMet (now (input .entry)) calls r ⌝ }
 {
     let mut d = drive;
     let mut taken: usize = 0;
     let mut n = calls;
     loop {
-        let s = serve(d, medium, &input[taken..], n, reply, out);
-        let put = s.put;
-        d = s.drive;
-        n = s.calls;
-        taken += s.taken;
-        let alive = io::write_all(STDOUT_FILENO, &out[..put]);
-        if (s.taken == 0) | !alive {
-            return Drained {
+        let b = answer_records(d, medium, &input[taken..], n, reply, out);
+        let put = b.put;
+        d = b.drive;
+        n = b.calls;
+        taken += b.taken;
+        let written = io::write_all(STDOUT_FILENO, &out[..put]);
+        if (b.taken == 0) | !written {
+            return Progress {
                 drive: d,
                 taken,
                 calls: n,
-                alive,
+                written,
             };
         }
     }
@@ -187,39 +192,39 @@ fn to_front(buf: &mut [u8], from: usize, n: usize)
     }
 }
 
-// Sees to room for a read behind the bytes that have not been taken. They move only where less than 64 KiB are free.
-fn make_room(input: &mut [u8], rest: Rest) -> Rest
-    requires { ⌜ InBuffer (rest .from) (rest .to) × (length (now input) ≡ 131086) ⌝ }
-    ensures { λ r. ⌜ RoomMet (now (input .entry)) (rest .from) (rest .to) (now (input .exit)) (r .from) (r .to) ⌝ }
+// Makes room for a read behind the pending bytes: they move to the front where less than READ_SIZE is free behind them.
+fn make_room(input: &mut [u8], pending: Pending) -> Pending
+    requires { ⌜ PendingFits pending × (length (now input) ≡ inputSize) ⌝ }
+    ensures { λ r. ⌜ MakeRoomMet (now (input .entry)) pending (now (input .exit)) r ⌝ }
 {
-    let from = rest.from;
-    let to = rest.to;
+    let from = pending.from;
+    let to = pending.to;
     if from == to {
-        return Rest { from: 0, to: 0 };
+        return Pending { from: 0, to: 0 };
     }
-    if input.len() - to >= READ {
-        return rest;
+    if input.len() - to >= READ_SIZE {
+        return pending;
     }
     to_front(input, from, to - from);
-    Rest {
+    Pending {
         from: 0,
         to: to - from,
     }
 }
 
-// One read. The space is not empty, so that 0 bytes are the input's end.
-fn read_some(space: &mut [u8]) -> Got
+// One read. The space is not empty, so that 0 bytes mean the end of the input.
+fn read_once(space: &mut [u8]) -> ReadResult
     requires { ⌜ 0 < length (now space) ⌝ }
     ensures { λ r. ⌜ r .count ≤ length (now (space .entry)) ⌝ }
 {
     let got = libc::read(STDIN_FILENO, space);
-    Got {
+    ReadResult {
         count: io::count(got, space),
         failed: got < 0,
     }
 }
 
-// The last line: `end` where the input has ended behind a record, else `cut`.
+// The last line: `end` where the input has ended after a whole record, else `cut`.
 fn last_line(out: &mut [u8], ended: bool, calls: u64) -> usize
     ensures { λ r. ⌜ TextPut (now (out .entry)) 0 (cond ended (Program·ended calls) (cut calls)) r (now (out .exit)) ⌝ }
 {
@@ -230,99 +235,101 @@ fn last_line(out: &mut [u8], ended: bool, calls: u64) -> usize
     }
 }
 
+// Writes the last line.
 fn finish(out: &mut [u8], ended: bool, calls: u64) {
     let n = last_line(out, ended, calls);
     io::write_all(STDOUT_FILENO, &out[..n]);
 }
 
-// Sees to room and reads once.
-fn fetch(input: &mut [u8], rest: Rest) -> Fetched
-    requires { ⌜ InBuffer (rest .from) (rest .to) × (length (now input) ≡ 131086) ⌝ }
-    ensures { λ r. ⌜ FetchMet (rest .from) (rest .to) (r .from) (r .to) (r .count) ⌝ }
+// Makes room in the input buffer and reads once, behind the pending bytes.
+fn refill(input: &mut [u8], pending: Pending) -> Refilled
+    requires { ⌜ PendingFits pending × (length (now input) ≡ inputSize) ⌝ }
+    ensures { λ r. ⌜ RefillMet pending r ⌝ }
 {
-    let r = make_room(input, rest);
-    let from = r.from;
-    let held = r.to;
-    let got = read_some(&mut input[held..]);
-    Fetched {
+    let p = make_room(input, pending);
+    let from = p.from;
+    let end = p.to;
+    let got = read_once(&mut input[end..]);
+    Refilled {
         from,
-        to: held + got.count,
+        to: end + got.count,
         count: got.count,
         failed: got.failed,
     }
 }
 
-// A read, and the answers to all records that are whole by then. It is the last turn where the input has ended, a record
-// is broken, a read has failed or nobody takes the output. A read that fails is no end behind a record: more may have
-// been to come, so the last line is then `cut`.
-fn turn(
-    t: Between,
+// One read, and the answers to all records that are whole by then. The loop stops where the input has ended, an input
+// record is malformed, a read has failed or the output can no longer be written. A failed read is no end of the input:
+// more may have been to come, so the last line is then `cut`.
+fn read_and_answer(
+    t: LoopState,
     medium: &mut [u8],
     input: &mut [u8],
     reply: &mut [u8],
     out: &mut [u8],
-) -> Between
-    requires { ⌜ BetweenReads (t .calls) (t .seen) (t .rest .from) (t .rest .to) × (t .seen < 2 ^ 63) × (length (now input) ≡ 131086) × (64 ≤ length (now out)) × (length (now reply) ≡ 65536) ⌝ }
-    ensures { λ r. ⌜ (r .go ≡ true → BetweenReads (r .calls) (r .seen) (r .rest .from) (r .rest .to) × (t .seen < r .seen)) ⌝ }
+) -> LoopState
+    requires { ⌜ LoopInvariant t × (t .received < inputLimit) × (length (now input) ≡ inputSize) × (lineSize ≤ length (now out)) × (length (now reply) ≡ replySize) ⌝ }
+    ensures { λ r. ⌜ (r .running ≡ true → LoopInvariant r × (t .received < r .received)) ⌝ }
 {
     let d = t.drive;
-    let rest = t.rest;
+    let pending = t.pending;
     let calls = t.calls;
-    let f = fetch(input, rest);
+    let f = refill(input, pending);
     let from = f.from;
     let to = f.to;
     if f.count == 0 {
         finish(out, (from == to) & !f.failed, calls);
         return stopped(d, calls);
     }
-    let s = drain(d, medium, &input[from..to], calls, reply, out);
-    let e = s.drive;
-    if !s.alive {
-        return stopped(e, s.calls);
+    let p = drain(d, medium, &input[from..to], calls, reply, out);
+    let e = p.drive;
+    if !p.written {
+        return stopped(e, p.calls);
     }
-    let at = from + s.taken;
-    if record::is_wrong(&input[at..to]) {
-        finish(out, false, s.calls);
-        return stopped(e, s.calls);
+    let at = from + p.taken;
+    if record::is_malformed(&input[at..to]) {
+        finish(out, false, p.calls);
+        return stopped(e, p.calls);
     }
-    let left = Rest { from: at, to };
-    Between {
+    let left = Pending { from: at, to };
+    LoopState {
         drive: e,
-        calls: s.calls,
-        seen: t.seen + f.count as u64,
-        rest: left,
-        go: true,
+        calls: p.calls,
+        received: t.received + f.count as u64,
+        pending: left,
+        running: true,
     }
 }
 
-fn stopped(drive: drive::Drive, calls: u64) -> Between
-    ensures { λ r. ⌜ r .go ≡ false ⌝ }
+// The state in which the loop stops.
+fn stopped(drive: drive::Drive, calls: u64) -> LoopState
+    ensures { λ r. ⌜ r .running ≡ false ⌝ }
 {
-    let none = Rest { from: 0, to: 0 };
-    Between {
+    let none = Pending { from: 0, to: 0 };
+    LoopState {
         drive,
         calls,
-        seen: 0,
-        rest: none,
-        go: false,
+        received: 0,
+        pending: none,
+        running: false,
     }
 }
 
-// Turn after turn.
+// Reads and answers until the loop stops.
 fn run(drive: drive::Drive, medium: &mut [u8], input: &mut [u8], reply: &mut [u8], out: &mut [u8])
-    requires { ⌜ (length (now input) ≡ 131086) × (64 ≤ length (now out)) × (length (now reply) ≡ 65536) ⌝ }
+    requires { ⌜ (length (now input) ≡ inputSize) × (lineSize ≤ length (now out)) × (length (now reply) ≡ replySize) ⌝ }
 {
-    let none = Rest { from: 0, to: 0 };
-    let mut t = Between {
+    let none = Pending { from: 0, to: 0 };
+    let mut t = LoopState {
         drive,
         calls: 0,
-        seen: 0,
-        rest: none,
-        go: true,
+        received: 0,
+        pending: none,
+        running: true,
     };
-    while t.seen < MOST {
-        t = turn(t, medium, input, reply, out);
-        if !t.go {
+    while t.received < INPUT_LIMIT {
+        t = read_and_answer(t, medium, input, reply, out);
+        if !t.running {
             return;
         }
     }

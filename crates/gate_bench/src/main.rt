@@ -1,8 +1,8 @@
 // For bench/gate: puts each record of standard input to the gate of a freshly formatted drive, and prints at the end how
 // many calls were granted and how many refused. The records are the program `gate`'s (mark 4C 49, clock, frame length,
-// frame), but a frame may be as long as document 01 lets it. The input comes in blocks of 1,052,672 bytes, the last one
-// shorter, and no record goes over a block's end: a block is one read, and nothing is moved. What stands in a block behind
-// its last whole record is passed over.
+// frame), but a frame may be as long as document 01 lets it. The input comes in blocks of BLOCK_SIZE bytes, the last one
+// shorter, and no record goes over a block's end: a block is one read, and nothing is moved. What follows a block's last
+// whole record is passed over.
 ghost use mathlib.Core.Path.{_≡_};
 ghost use Prim.Native.Nat.{_≤_, _<_};
 ghost use lib.ListN.{length};
@@ -12,16 +12,23 @@ use libc::STDIN_FILENO;
 use libc::STDOUT_FILENO;
 
 // The bytes before the frame: the two of the mark, eight of the clock, four of the frame's length.
-const HEAD: usize = 14;
+const HEAD_SIZE: usize = 14;
 
 const MAGIC: u64 = 0x4c49;
 
-// A proved loop has to end, and nothing says that the input does: after 2 to the 63 blocks it is given up.
-const MOST: u64 = 0x8000000000000000;
+// A proved loop has to end, and nothing says that the input does: after so many blocks the program gives up.
+const BLOCK_LIMIT: u64 = 0x8000000000000000;
 
-// The record at the start of a block's rest: its clock and its size, head and frame; or size 0 where no whole one stands
-// there.
-struct Whole {
+// Four quarters, each with room for an object of 1 MiB and fifteen of 1 KiB.
+const MEDIUM_SIZE: usize = 4259840;
+
+const BLOCK_SIZE: usize = 1052672;
+
+// A reply with a result of 64 KiB, and its digest.
+const REPLY_SIZE: usize = 65576;
+
+// A whole input record: its clock and its size in bytes, head and frame; size 0 where there is none.
+struct InputRecord {
     clock: u64,
     size: usize,
 }
@@ -33,44 +40,42 @@ struct Tally {
     refused: u64,
 }
 
-// Four quarters, each with room for an object of 1 MiB and fifteen of 1 KiB.
-fn medium_buffer() -> [u8; 4259840]
+fn medium_buffer() -> [u8; MEDIUM_SIZE]
     ensures { λ r. ⌜ 4259840 ≡ length r ⌝ }
 {
-    [0; 4259840]
+    [0; MEDIUM_SIZE]
 }
 
-// One block.
-fn input_buffer() -> [u8; 1052672]
+fn input_buffer() -> [u8; BLOCK_SIZE]
     ensures { λ r. ⌜ 1052672 ≡ length r ⌝ }
 {
-    [0; 1052672]
+    [0; BLOCK_SIZE]
 }
 
-// A reply with a result of 64 KiB, and its digest.
-fn reply_buffer() -> [u8; 65576]
+fn reply_buffer() -> [u8; REPLY_SIZE]
     ensures { λ r. ⌜ 65576 ≡ length r ⌝ }
 {
-    [0; 65576]
+    [0; REPLY_SIZE]
 }
 
-fn whole_record(input: &[u8]) -> Whole
+// The input record at the start of input.
+fn whole_record(input: &[u8]) -> InputRecord
     ensures { λ r. ⌜ (r .size ≤ length (now (input .entry))) × (0 < r .size → 14 ≤ r .size) ⌝ }
 {
-    if input.len() < HEAD {
-        return Whole { clock: 0, size: 0 };
+    if input.len() < HEAD_SIZE {
+        return InputRecord { clock: 0, size: 0 };
     }
     if octets::number(input, 0, 2) != MAGIC {
-        return Whole { clock: 0, size: 0 };
+        return InputRecord { clock: 0, size: 0 };
     }
     let size = octets::number(input, 10, 4);
-    if ((input.len() - HEAD) as u64) < size {
-        return Whole { clock: 0, size: 0 };
+    if ((input.len() - HEAD_SIZE) as u64) < size {
+        return InputRecord { clock: 0, size: 0 };
     }
     let clock = octets::number(input, 2, 8);
-    Whole {
+    InputRecord {
         clock,
-        size: HEAD + size as usize,
+        size: HEAD_SIZE + size as usize,
     }
 }
 
@@ -79,9 +84,9 @@ fn granted(row: u32) -> u64 {
     if row == 0 { 1 } else { 0 }
 }
 
-// Puts the whole records at the start of input to the gate, in order. The last answer is what a turn keeps: a drive taken
-// out of it would be copied once more.
-fn serve(t: Tally, medium: &mut [u8], input: &[u8], reply: &mut [u8]) -> Tally {
+// Puts the whole records at the start of input to the gate, in order. The loop keeps the last answer, and not its drive:
+// a drive taken out of it would be copied once more.
+fn answer_records(t: Tally, medium: &mut [u8], input: &[u8], reply: &mut [u8]) -> Tally {
     let drive = t.drive;
     let mut a = Answer {
         row: 0,
@@ -97,7 +102,7 @@ fn serve(t: Tally, medium: &mut [u8], input: &[u8], reply: &mut [u8]) -> Tally {
         if size == 0 {
             break;
         }
-        let start = taken + HEAD;
+        let start = taken + HEAD_SIZE;
         let end = taken + size;
         let d = a.drive;
         a = drive::gate(d, medium, &input[start..end], w.clock, reply);
@@ -113,21 +118,21 @@ fn serve(t: Tally, medium: &mut [u8], input: &[u8], reply: &mut [u8]) -> Tally {
     }
 }
 
-// Block after block.
+// Reads and answers blocks until the input ends.
 fn run(drive: Drive, medium: &mut [u8], input: &mut [u8], reply: &mut [u8]) -> Tally {
     let mut t = Tally {
         drive,
         granted: 0,
         refused: 0,
     };
-    let mut left = MOST;
+    let mut left = BLOCK_LIMIT;
     while left > 0 {
         left -= 1;
         let n = io::read_full(STDIN_FILENO, input);
         if n == 0 {
             break;
         }
-        t = serve(t, medium, &input[..n], reply);
+        t = answer_records(t, medium, &input[..n], reply);
     }
     t
 }

@@ -26,7 +26,7 @@ digits-more f n h = rw (le-ltb n 10 h, digits) refl
 pub stored-before : (s : List ℕ) (i x : ℕ) → i < length s → drop i (set s i x) ≡ x ∷ drop (suc i) s
 stored-before s i x h = rw (set-split s i x h) (drop-at (take i s) (x ∷ drop (suc i) s) i (length-take-le i s (omega arith)))
 
--- the text w is the digits of n and then what stands behind place i: so it is when the last digit has moved there
+-- where the text w is the digits of n and then the bytes behind place i, it still is when the last digit moves to i
 pub digit-stored : (f n i : ℕ) (s w : List ℕ) → 10 ≤ n → i < length s → digits (suc f) n ++ drop (suc i) s ≡ w
     → digits f (n / 10) ++ drop i (set s i (48 + n % 10)) ≡ w
 digit-stored f n i s w h l e =

@@ -5,8 +5,10 @@ ghost use mathlib.Core.Path.{_≡_};
 ghost use Rattle.rules.specs.Program.{decimal, printed, ended, cut};
 ghost use Rattle.lines.specs.Text.{TextPut};
 
-// Writes n in decimal into space from place at on, and answers the place after it; where it does not fit, nothing is
-// written and the answer is at. So do all that follow.
+// Each function here writes its text into space from place `at` on, and returns the place after it; where the text does
+// not fit, nothing is written and `at` is returned.
+
+// The number n in decimal.
 pub fn put_decimal(space: &mut [u8], at: usize, n: u64) -> usize
     ensures { λ r. ⌜ TextPut (now (space .entry)) at (decimal n) r (now (space .exit)) ⌝ }
 {

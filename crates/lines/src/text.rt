@@ -7,9 +7,12 @@ ghost use lib.ListN.{length};
 ghost use Rattle.rules.specs.Program.{decimal, printed};
 ghost use Rattle.lines.specs.Text.{textOf, placeAfter, TextPut};
 
-// The text is the bytes from place `from` on. The longest line has 63.
+// More than the longest line has.
+const TEXT_SIZE: usize = 64;
+
+// The text is the bytes from place `from` on.
 pub struct Text {
-    pub bytes: [u8; 64],
+    pub bytes: [u8; TEXT_SIZE],
     pub from: usize,
 }
 
@@ -18,8 +21,8 @@ pub fn blank() -> Text
     ensures { λ r. ⌜ (textOf r ≡ []) × (r .from ≡ 64) ⌝ }
 {
     Text {
-        bytes: [0u8; 64],
-        from: 64,
+        bytes: [0u8; TEXT_SIZE],
+        from: TEXT_SIZE,
     }
 }
 
@@ -78,20 +81,20 @@ pub fn last(x: u8, y: u8, z: u8, n: u64) -> Text
     byte_before(byte_before(c, y), x)
 }
 
-// Writes the text into space from place at on, and answers the place after it; where it does not fit, nothing is
-// written and the answer is at.
+// Writes the text into space from place `at` on, and returns the place after it; where it does not fit, nothing is
+// written and `at` is returned.
 pub fn put(space: &mut [u8], at: usize, t: Text) -> usize
     requires { ⌜ t .from ≤ 64 ⌝ }
     ensures { λ r. ⌜ TextPut (now (space .entry)) at (textOf t) r (now (space .exit)) ⌝ }
 {
     let bytes = t.bytes;
     let from = t.from;
-    let size = 64 - from;
+    let size = TEXT_SIZE - from;
     octets::copy_to(space, at, &bytes[from..]);
     after(space.len(), at, size)
 }
 
-// The place after n bytes from place at on, where they lie within len; else at. No sum, so none that wraps.
+// The place after n bytes from place `at` on, where they lie within len; else `at`. There is no sum that could wrap.
 fn after(len: usize, at: usize, n: usize) -> usize
     ensures { λ r. ⌜ r ≡ placeAfter len at n ⌝ }
 {

@@ -1,5 +1,5 @@
--- Document 01, the program `gate`: what is known of a record while its bytes arrive. input: the bytes from the record's
--- start on, as far as they have arrived.
+-- Document 01, the program `gate`: what is known of an input record while its bytes arrive. input: the bytes from the
+-- record's start on, as far as they have arrived.
 use mathlib.Core.Bool.{Bool, true, false, not, _&&_, _||_, cond}
 use mathlib.Core.List.{List}
 use Prim.Native.Nat.{ℕ}
@@ -9,32 +9,32 @@ use Rattle.lemmas.specs.Tests.{_over_, _isnt_}
 use Rattle.lemmas.specs.BigEndian.{numberAt}
 use Rattle.rules.specs.Program.{recordMagic, recordHead, frameLength, callIn, broken}
 use Rattle.record.specs.declared.Arrived.{Arrived}
-use Rattle.record.specs.declared.Arrived.the-variants.{Whole, Broken, Short}
+use Rattle.record.specs.declared.Arrived.the-variants.{Whole, Malformed, Short}
 
 -- "another mark", once its two bytes are there, or "a length over 65,536", once the head is
-abbrev pub wrong : List ℕ → Bool
-wrong input =
+abbrev pub malformed : List ℕ → Bool
+malformed input =
     (leb 2 (length input) && numberAt input 0 2 isnt recordMagic)
     || (leb recordHead (length input) && frameLength input over 65_536)
 
--- what there is to know: that the record is whole, that it never will be, its clock and its frame's length
+-- what can be known: whether the record is whole, whether it never will be, its clock and its frame's length
 pub record RecordFacts : Type 0 where
   pub whole : Bool
-  pub hopeless : Bool
+  pub malformed : Bool
   pub clock : ℕ
   pub size : ℕ
 
--- each answer's values
+-- the facts that an answer gives
 abbrev pub factsOf : Arrived → RecordFacts
-factsOf (Whole clock size) = record { whole = true; hopeless = false; clock = clock; size = size }
-factsOf Broken = record { whole = false; hopeless = true; clock = 0; size = 0 }
-factsOf Short = record { whole = false; hopeless = false; clock = 0; size = 0 }
+factsOf (Whole clock size) = record { whole = true; malformed = false; clock = clock; size = size }
+factsOf Malformed = record { whole = false; malformed = true; clock = 0; size = 0 }
+factsOf Short = record { whole = false; malformed = false; clock = 0; size = 0 }
 
--- and document 01's, of the bytes that have arrived
+-- the facts by document 01, of the bytes that have arrived
 unfoldable pub recordFacts : List ℕ → RecordFacts
 recordFacts input = record {
   whole = not (broken input);
-  hopeless = wrong input;
+  malformed = malformed input;
   clock = cond (broken input) 0 (callIn input .clock);
   size = cond (broken input) 0 (frameLength input);
 }

@@ -1,4 +1,4 @@
--- What is known of a record stays true when more arrives, so what the program prints can be told record by record.
+-- What is known of an input record stays true when more arrives, so what the program prints is known record by record.
 -- p: the bytes that have arrived; q: those that come later; s: drive and medium; n: the calls so far.
 use mathlib.Core.Path.{_≡_, refl, sym, ap, _∙_}
 use mathlib.Core.Logic.{_⊎_, inl, inr}
@@ -15,8 +15,8 @@ use Rattle.lemmas.specs.Lists.{part}
 use Rattle.lemmas.specs.BigEndian.{numberAt, number-left}
 use Rattle.rules.specs.Demands.{State, answer, step}
 use Rattle.rules.specs.Program.{recordMagic, recordHead, frameLength, callIn, broken, printed, ended, cut, prints}
-use Rattle.record.specs.Arrival.{wrong}
-use Rattle.record.specs.Arriving.{whole-facts, wrong-broken, neither}
+use Rattle.record.specs.Arrival.{malformed}
+use Rattle.record.specs.ArrivalLaws.{whole-facts, malformed-broken, neither}
 
 -- ---- a whole record stays one, and stays the same call
 pub length-stays : (p q : List ℕ) → recordHead ≤ length p → frameLength (p ++ q) ≡ frameLength p
@@ -37,8 +37,8 @@ call-stays p q e =
     )
 
 -- the mark and the length are those of the bytes that were there
-wrong-tests : (p q : List ℕ) → wrong p ≡ true → wrong (p ++ q) ≡ true
-wrong-tests p q h = go (or-cases (leb 2 (length p) && numberAt p 0 2 isnt recordMagic)
+malformed-tests : (p q : List ℕ) → malformed p ≡ true → malformed (p ++ q) ≡ true
+malformed-tests p q h = go (or-cases (leb 2 (length p) && numberAt p 0 2 isnt recordMagic)
     (leb recordHead (length p) && frameLength p over 65_536) h)
   where
     longer : (k : ℕ) → leb k (length p) ≡ true → leb k (length (p ++ q)) ≡ true
@@ -46,7 +46,7 @@ wrong-tests p q h = go (or-cases (leb 2 (length p) && numberAt p 0 2 isnt record
 
     go : ((leb 2 (length p) && numberAt p 0 2 isnt recordMagic) ≡ true)
         ⊎ ((leb recordHead (length p) && frameLength p over 65_536) ≡ true)
-        → wrong (p ++ q) ≡ true
+        → malformed (p ++ q) ≡ true
     go (inl e) =
         let t = and-l (leb 2 (length p)) (numberAt p 0 2 isnt recordMagic) e in
         let m : (numberAt (p ++ q) 0 2 isnt recordMagic) ≡ true =
@@ -63,8 +63,8 @@ wrong-tests p q h = go (or-cases (leb 2 (length p) && numberAt p 0 2 isnt record
         (leb recordHead (length (p ++ q)) && frameLength (p ++ q) over 65_536)
         (both (longer recordHead t) m)
 
-wrong-some : (p : List ℕ) → wrong p ≡ true → 0 < length p
-wrong-some p h = go (or-cases (leb 2 (length p) && numberAt p 0 2 isnt recordMagic)
+malformed-some : (p : List ℕ) → malformed p ≡ true → 0 < length p
+malformed-some p h = go (or-cases (leb 2 (length p) && numberAt p 0 2 isnt recordMagic)
     (leb recordHead (length p) && frameLength p over 65_536) h)
   where
     go : ((leb 2 (length p) && numberAt p 0 2 isnt recordMagic) ≡ true)
@@ -78,8 +78,8 @@ wrong-some p h = go (or-cases (leb 2 (length p) && numberAt p 0 2 isnt recordMag
     )
 
 -- what is no record stays none
-pub wrong-stays : (p q : List ℕ) → wrong p ≡ true → broken (p ++ q) ≡ true
-wrong-stays p q h = wrong-broken (p ++ q) (wrong-tests p q h)
+pub malformed-stays : (p q : List ℕ) → malformed p ≡ true → broken (p ++ q) ≡ true
+malformed-stays p q h = malformed-broken (p ++ q) (malformed-tests p q h)
 
 pub whole-stays : (p q : List ℕ) → broken p ≡ false → broken (p ++ q) ≡ false
 unfolding broken
@@ -113,9 +113,9 @@ prints-call k n s p q e =
     (rw (call-stays p q e, size, drop-append-le (recordHead + frameLength p) p q (w .fits)) refl)
 
 -- of what is no record, and of one that the input's end cuts off: `cut`
-pub prints-wrong : (k n : ℕ) (s : State) (p q : List ℕ) → wrong p ≡ true → prints (suc k) s n (p ++ q) ≡ cut n
+pub prints-malformed : (k n : ℕ) (s : State) (p q : List ℕ) → malformed p ≡ true → prints (suc k) s n (p ++ q) ≡ cut n
 unfolding prints
-prints-wrong k n s p q h = rw (some p q (wrong-some p h), wrong-stays p q h, prints) refl
+prints-malformed k n s p q h = rw (some p q (malformed-some p h), malformed-stays p q h, prints) refl
 
 pub prints-cut : (k n : ℕ) (s : State) (p : List ℕ) → 0 < length p → broken p ≡ true → prints (suc k) s n p ≡ cut n
 unfolding prints

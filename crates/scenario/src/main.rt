@@ -5,16 +5,23 @@ ghost use mathlib.Core.Path.{_≡_};
 ghost use lib.ListN.{length};
 use drive::Answer;
 use drive::Drive;
+use lemmas::smaller;
 use libc::STDIN_FILENO;
+use player::Player;
 use scenario_script::frames::four;
 use scenario_script::script;
 use scenario_script::words;
-use turn::Turn;
+use scenario_script::words::NUMBERS;
 
-mod turn;
+mod player;
 
-// A proved loop has to end, and a script can lead to itself: after so many lines it is given up.
-const MOST: u64 = 100000;
+// A proved loop has to end, and a script can lead back to itself: after so many lines the program gives up.
+const LINE_LIMIT: u64 = 100000;
+
+// The sizes of the drive's tables, and of a key.
+const TABLES: usize = 268;
+
+const KEY_SIZE: usize = 32;
 
 // What it holds before the first format.
 fn medium_buffer() -> [u8; 400]
@@ -23,24 +30,24 @@ fn medium_buffer() -> [u8; 400]
     [0xaa; 400]
 }
 
-// No longer frame is built, or reply called for.
+// The scenarios have no longer frame, and no longer reply.
 fn frame_buffer() -> [u8; 160]
     ensures { λ r. ⌜ 160 ≡ length r ⌝ }
 {
     [0; 160]
 }
 
-// With what a line can see of the drive.
-fn seen(a: Answer, numbers: [u64; 76], kept: [u8; 32]) -> Turn {
+// The player with what a line can see of the drive.
+fn observing(a: Answer, numbers: [u64; NUMBERS], kept: [u8; KEY_SIZE]) -> Player {
     let d = a.drive;
     let keys = d.keys;
     let tables = d.tables;
     let held = d.lengths[0];
-    turn::noted(numbers, kept, d.size, d.highwater, held, keys, tables)
+    player::with_drive(numbers, kept, d.size, d.highwater, held, keys, tables)
 }
 
 // The tables with as many objects in partition 0, and the second one of them, as `damage` says.
-fn damaged_tables(old: [u32; 268], n: [u64; 76]) -> [u32; 268] {
+fn damaged_tables(old: [u32; TABLES], n: [u64; NUMBERS]) -> [u32; TABLES] {
     let mut t = old;
     t[2] = four(n[words::B]);
     t[4] = four(n[words::A + 2]);
@@ -51,7 +58,7 @@ fn damaged_tables(old: [u32; 268], n: [u64; 76]) -> [u32; 268] {
 }
 
 // The drive with M, partition 0's objects and the number of its entries as `damage` says.
-fn damaged(a: Answer, n: [u64; 76]) -> Answer {
+fn damaged(a: Answer, n: [u64; NUMBERS]) -> Answer {
     let mut d = a.drive;
     let old = d.tables;
     let tables = damaged_tables(old, n);
@@ -65,8 +72,8 @@ fn damaged(a: Answer, n: [u64; 76]) -> Answer {
     }
 }
 
-// The drive of a format.
-fn made(medium: &mut [u8], first: u32, master: &[u8], key: &[u8]) -> Answer {
+// The answer to a format, with its drive.
+fn format_answer(medium: &mut [u8], first: u32, master: &[u8], key: &[u8]) -> Answer {
     let f = drive::format(medium, first, master, key);
     let drive = f.drive;
     Answer {
@@ -77,30 +84,36 @@ fn made(medium: &mut [u8], first: u32, master: &[u8], key: &[u8]) -> Answer {
 }
 
 // A drive of the line's first version, with a master key and a drive key of so many bytes.
-fn formatted(n: [u64; 76], medium: &mut [u8]) -> Answer {
+fn formatted(n: [u64; NUMBERS], medium: &mut [u8]) -> Answer {
     let master = [0u8; 40];
     let key = [1u8; 40];
-    let m = script::most(n[words::B], &master);
-    let k = script::most(n[words::C], &key);
-    made(medium, four(n[words::A]), &master[..m], &key[..k])
+    let m = smaller(n[words::B] as usize, master.len());
+    let k = smaller(n[words::C] as usize, key.len());
+    format_answer(medium, four(n[words::A]), &master[..m], &key[..k])
 }
 
 // The gate's answer to the frame, with as much of the medium and the reply space lent as the numbers say.
-fn put(d: Drive, n: [u64; 76], medium: &mut [u8], frame: &[u8], reply: &mut [u8]) -> Answer {
-    let m = script::most(n[words::MEDIUM], medium);
-    let r = script::most(n[words::SPACE], reply);
+fn gate_answer(
+    d: Drive,
+    n: [u64; NUMBERS],
+    medium: &mut [u8],
+    frame: &[u8],
+    reply: &mut [u8],
+) -> Answer {
+    let m = smaller(n[words::MEDIUM] as usize, medium.len());
+    let r = smaller(n[words::SPACE] as usize, reply.len());
     let bytes = script::part(frame, 0, n[words::LENGTH] as usize);
     drive::gate(d, &mut medium[..m], bytes, n[words::CLOCK], &mut reply[..r])
 }
 
 // What a line does to the drive.
-fn act(a: Answer, n: [u64; 76], medium: &mut [u8], frame: &[u8], reply: &mut [u8]) -> Answer {
+fn act(a: Answer, n: [u64; NUMBERS], medium: &mut [u8], frame: &[u8], reply: &mut [u8]) -> Answer {
     let word = n[words::WORD] as usize;
     if word == words::FORMAT {
         return formatted(n, medium);
     }
     if words::sends(word) {
-        return put(a.drive, n, medium, frame, reply);
+        return gate_answer(a.drive, n, medium, frame, reply);
     }
     if word == words::DAMAGE {
         return damaged(a, n);
@@ -108,19 +121,19 @@ fn act(a: Answer, n: [u64; 76], medium: &mut [u8], frame: &[u8], reply: &mut [u8
     a
 }
 
-// Line after line.
+// Plays the lines until `stop`, or until there are too many.
 fn play(script: &[u8], medium: &mut [u8], frame: &mut [u8], reply: &mut [u8]) {
-    let mut t = turn::first_turn();
+    let mut t = player::initial();
     let mut n = t.numbers;
     let mut a = formatted(n, medium);
-    let mut left = MOST;
+    let mut left = LINE_LIMIT;
     while left > 0 {
         let kept = t.kept;
-        t = turn::ready(seen(a, turn::next(n, script), kept), script, frame);
+        t = player::prepared(observing(a, player::next(n, script), kept), script, frame);
         n = t.numbers;
         a = act(a, n, medium, frame, reply);
-        turn::tell(n, a.row, a.length, script, reply);
-        left = turn::fewer(left, n[words::WORD]);
+        player::print_answer(n, a.row, a.length, script, reply);
+        left = player::lines_left(left, n[words::WORD]);
     }
 }
 

@@ -1,4 +1,4 @@
-// Frames, built by the client end from the numbers of a turn.
+// Frames, built by the client end from the player's numbers.
 ghost use mathlib.Core.Path.{_≡_};
 ghost use lib.ListN.{length};
 use crate::words::A;
@@ -10,6 +10,7 @@ use crate::words::FIRST;
 use crate::words::HOLDER;
 use crate::words::LEAST;
 use crate::words::LEVEL;
+use crate::words::NUMBERS;
 use crate::words::OBJECT;
 use crate::words::PARTITION;
 use crate::words::RIGHTS;
@@ -37,7 +38,7 @@ pub fn four(x: u64) -> u32 {
     }
 }
 
-fn credential_of(n: [u64; 76]) -> Credential {
+fn credential_of(n: [u64; NUMBERS]) -> Credential {
     Credential {
         magic: 0x4c43,
         partition: one(n[PARTITION]),
@@ -55,7 +56,7 @@ fn credential_of(n: [u64; 76]) -> Credential {
 }
 
 // B is the line's second number, in a write how many data bytes there are.
-fn b_of(n: [u64; 76], count: usize) -> u64 {
+fn b_of(n: [u64; NUMBERS], count: usize) -> u64 {
     if n[WORD] as usize == WRITE {
         count as u64
     } else {
@@ -79,7 +80,7 @@ fn request_bytes(numbers: [u64; 8], widths: [usize; 8]) -> [u8; 28]
 }
 
 // The line's request, with so many data bytes.
-fn request_of(n: [u64; 76], count: usize) -> [u8; 28]
+fn request_of(n: [u64; NUMBERS], count: usize) -> [u8; 28]
     ensures { λ r. ⌜ 28 ≡ length r ⌝ }
 {
     let b = b_of(n, count);
@@ -100,7 +101,7 @@ fn request_of(n: [u64; 76], count: usize) -> [u8; 28]
 
 // Writes the frame of a line into space, and answers its length, 0 where it is refused: the credential's issuer and the
 // frame builder are the product's own.
-pub fn build(n: [u64; 76], key: [u8; 32], payload: &[u8], space: &mut [u8]) -> usize {
+pub fn build(n: [u64; NUMBERS], key: [u8; 32], payload: &[u8], space: &mut [u8]) -> usize {
     let mut credential = [0u8; 36];
     let issued = client::issue(credential_of(n), &key, &mut credential);
     let secret = issued.key;

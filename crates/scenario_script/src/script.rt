@@ -1,21 +1,7 @@
-// The script: its lines, and what stands in a line. A line is a word, decimal numbers, for some words a text in quotes,
+// The script: its lines, and the parts of a line. A line is a word, decimal numbers, for some words a text in quotes,
 // and behind a colon the label that is printed.
 ghost use Prim.Native.Nat.{_≤_, _<_};
 ghost use lib.ListN.{length};
-ghost use Rattle.io.specs.Counts.{Counts};
-
-fn least(a: usize, b: usize) -> usize
-    ensures { λ r. ⌜ r ≤ b ⌝ }
-{
-    if a < b { a } else { b }
-}
-
-// n, or how many bytes there are where they are fewer.
-pub fn most(n: u64, bytes: &[u8]) -> usize
-    ensures { λ r. ⌜ Counts r (now (bytes .entry)) ⌝ }
-{
-    least(n as usize, bytes.len())
-}
 
 // The bytes from place `from` up to `to`; none where they are not all there.
 pub fn part<'a>(s: &'a [u8], from: usize, to: usize) -> &'a [u8] {
@@ -62,7 +48,7 @@ pub fn behind(s: &[u8], from: usize, b: u8) -> usize
     if i < s.len() { i + 1 } else { i }
 }
 
-// Where the word starts that stands k words behind `from`.
+// Where the word starts that is k words behind `from`.
 fn word_start(s: &[u8], from: usize, k: usize) -> usize {
     let mut at = from;
     let mut i: usize = 0;
@@ -81,13 +67,13 @@ pub fn word<'a>(line: &'a [u8], k: usize) -> &'a [u8] {
     part(line, at, to)
 }
 
-// What stands before the colon.
+// What comes before the colon.
 pub fn head<'a>(line: &'a [u8]) -> &'a [u8] {
     let to = find(line, 0, b':');
     part(line, 0, to)
 }
 
-// What is printed for a line: what stands behind the colon, or its word where there is none.
+// What is printed for a line: the text behind the colon, or the line's word where there is no colon.
 pub fn label<'a>(line: &'a [u8]) -> &'a [u8] {
     let at = behind(line, 0, b':');
     let from = skip(line, at, b' ');

@@ -1,7 +1,12 @@
-// The words of a script, and the places of a turn's numbers. A word's number is its place in the table; that of a word that
-// sets a number is also the number's place.
+// The words of a script, and the places of the player's numbers. A word's number is its place in the table; that of a word
+// that sets a number is also the number's place.
 ghost use Prim.Native.Nat.{_<_};
 use crate::script;
+
+// How many numbers the player has, and one more than the number of the last word.
+pub const NUMBERS: usize = 76;
+
+const WORD_COUNT: usize = 45;
 
 pub const WRITE: usize = 2;
 
@@ -83,7 +88,7 @@ pub const REPEAT: usize = 43;
 // How many bytes of the last frame are put.
 pub const LENGTH: usize = 44;
 
-// What else a turn has: the line's word, where it stands, where the next one starts, where to go on behind a part.
+// The line: its word, where it starts and ends, where the next one starts, where to go on behind a part.
 pub const WORD: usize = 52;
 
 pub const FROM: usize = 53;
@@ -103,7 +108,7 @@ pub const C: usize = 59;
 
 // M, mark; of partition 0 how many objects, the second one's four numbers, how many entries: what `record` prints. Then the
 // last version given, and where the object that the line names starts.
-pub const SEEN: usize = 64;
+pub const DRIVE: usize = 64;
 
 pub const LAST: usize = 72;
 
@@ -114,7 +119,7 @@ fn place_in(table: &[u8], word: &[u8]) -> usize
     ensures { λ r. ⌜ r < 45 ⌝ }
 {
     let mut k: usize = 1;
-    while k < 45 {
+    while k < WORD_COUNT {
         if octets::same(script::word(table, k), word) {
             return k;
         }
@@ -142,14 +147,14 @@ pub fn base_of(word: usize) -> usize {
     if word < PARTITION { A } else { word }
 }
 
-// Where the number is that a word shows.
-pub fn sight_place(word: usize) -> usize
+// Where the number is that a word prints.
+pub fn shown_place(word: usize) -> usize
     ensures { λ r. ⌜ r < 76 ⌝ }
 {
     match word {
-        MARK => SEEN + 1,
-        HELD => SEEN + 7,
-        _ => SEEN,
+        MARK => DRIVE + 1,
+        HELD => DRIVE + 7,
+        _ => DRIVE,
     }
 }
 

@@ -1,10 +1,9 @@
 // A tour: a drive is made ready, a log's shape is written to it and read back, and the same frame is tried again.
 ghost use mathlib.Core.Path.{_≡_};
-ghost use Prim.Native.Nat.{_≤_};
 ghost use lib.ListN.{length};
-ghost use Rattle.io.specs.Counts.{Counts};
 use digest::mac;
 use drive::Drive;
+use lemmas::smaller;
 use rules::Credential;
 
 mod say;
@@ -30,7 +29,7 @@ fn every_right(slot: u8, object: u32, version: u32) -> Credential {
     }
 }
 
-// The 28 bytes of a request at level 2; `count` tells requests of one time apart.
+// The 28 bytes of a request at level 2; requests of the same time differ in `count`.
 fn request_of(operation: u8, count: u32, a: u32, b: u32, n: u32) -> [u8; 28]
     ensures { λ r. ⌜ 28 ≡ length r ⌝ }
 {
@@ -61,19 +60,6 @@ fn new_key(key: &[u8], count: u32, seed: &[u8]) -> [u8; 32]
     mac::of3(key, &request, seed, b"")
 }
 
-fn least(a: usize, b: usize) -> usize
-    ensures { λ r. ⌜ r ≤ b ⌝ }
-{
-    if a < b { a } else { b }
-}
-
-// n, or how many bytes there are where they are fewer: the start of a space, so long, can be lent on.
-fn most(n: usize, bytes: &[u8]) -> usize
-    ensures { λ r. ⌜ Counts r (now (bytes .entry)) ⌝ }
-{
-    least(n, bytes.len())
-}
-
 // One exchange, under the key of the credential's slot. What came of it is printed.
 fn send(
     store: Drive,
@@ -94,9 +80,9 @@ fn send(
     let issued = client::issue(every_right(slot, object, version), key, &mut credential);
     let secret = issued.key;
     let built = client::build(&credential, &request, payload, &secret, &mut frame);
-    let n = most(built.length, &frame);
+    let n = smaller(built.length, frame.len());
     let answer = drive::gate(store, medium, &frame[..n], NOW, &mut reply);
-    let m = most(answer.length, &reply);
+    let m = smaller(answer.length, reply.len());
     let result = client::check(&credential, &request, &secret, &reply[..m], &mut row);
     say::step(what, answer.row, row, result);
     answer.drive

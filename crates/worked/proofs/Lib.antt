@@ -1,3 +1,3 @@
--- `Worked` is a list of calls computed; `Signed` has the laws by which row 9 is answered with HMAC left unopened.
+-- `Worked` has the lists; `Signed` the laws by which row 9 is answered without computing HMAC.
 pub mod Signed
 pub mod Worked

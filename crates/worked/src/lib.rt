@@ -1,2 +1,2 @@
-// A worked list of calls over document 01's definitions (proofs/Worked.antt), computed by the checker, so that the theorems
-// are seen not to be empty. It stands apart from `rules`, whose must-fail edits then cost less. No code.
+// Lists of calls over document 01's definitions (proofs/Worked.antt), computed by the checker: they show that the theorems
+// are not empty. A crate of its own, so that the must-fail edits of `rules` cost less. No code.

@@ -1,4 +1,4 @@
--- The bytes counted so far stand at the start of the array: count-step.
+-- The loop's invariant: the array starts with the bytes counted so far. By count-step.
 use mathlib.Core.Path.{_≡_, refl, sym, _∙_}
 use Prim.Native.Nat.{_≤_, _-_}
 use native.Mathlib.Omega.{arith}

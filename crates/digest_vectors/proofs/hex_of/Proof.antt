@@ -1,4 +1,4 @@
--- The digits of the bytes read so far stand at the start of the text: hex-step.
+-- The loop's invariant: the text starts with the digits of the bytes read so far. By hex-step.
 use mathlib.Core.Path.{_≡_, refl, sym, ap, _∙_}
 use Prim.Native.Nat.{_≤_, _-_, _*_}
 use native.Mathlib.Omega.{arith}

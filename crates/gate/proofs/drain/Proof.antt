@@ -1,4 +1,4 @@
--- The loop's invariant: the calls keep step with the bytes taken. A round that takes nothing leaves no whole record.
+-- The loop's invariant: the calls keep pace with the bytes taken. A batch that takes nothing leaves no whole record.
 use mathlib.Core.Path.{_≡_, refl, sym, ap, subst, _∙_}
 use mathlib.Core.Bool.{Bool, true, false, not, _||_}
 use mathlib.Core.Logic.{_⊎_, inl, inr}
@@ -13,7 +13,7 @@ use borrow.Author.Tests.{eqb-true, eqb-false}
 use Rattle.lemmas.specs.Tests.{or-l, or-cases}
 use Rattle.rules.specs.Program.{broken}
 use Rattle.gate.specs.Answered.{stateOf}
-use Rattle.gate.specs.Promises.{AnswerMet, rest, rest-all, length-rest}
+use Rattle.gate.specs.Promises.{AnswerRecordsMet, rest, rest-all, length-rest}
 use Rattle.gate.proofs.drain.Statement.{statement}
 use Rattle.gate.proofs.drain.Tie as tie
 
@@ -25,103 +25,98 @@ Inv-loop medium₀ input calls reply₀ out₀ d₀ taken₀ n₀ medium reply o
 abbrev μ-loop : tie.MeasureT-loop
 μ-loop medium₀ input calls reply₀ out₀ d₀ taken₀ n₀ medium reply out d taken n = length input - taken
 
--- places seen from later ones: the loop's head and the start from a round, a round from the test at its end
-abbrev head : tie.After-serve Inv-loop μ-loop → tie.At-loop Inv-loop μ-loop
+-- ---- places, each seen from a later one: the start, the loop's head, a batch of answers, the write of its lines
+abbrev start : tie.At-loop Inv-loop μ-loop → tie.Start Inv-loop μ-loop
+start c = c .before .before .before .before .before
+
+abbrev head : tie.After-answer-records Inv-loop μ-loop → tie.At-loop Inv-loop μ-loop
 head c = c .before .before .before .before .before
 
-abbrev start : tie.After-serve Inv-loop μ-loop → tie.Start Inv-loop μ-loop
-start c = c .before .before .before .before .before .before .before .before .before .before
+abbrev batch : tie.After-struct-known Inv-loop μ-loop → tie.After-answer-records Inv-loop μ-loop
+batch c = c .before .before .before .before .before .before .before .before
 
-abbrev served : tie.After-struct-known2 Inv-loop μ-loop → tie.After-serve Inv-loop μ-loop
-served c = c .before .before .before .before .before .before .before .before .before .before .before
+abbrev written : tie.After-struct-known2 Inv-loop μ-loop → tie.After-struct-known Inv-loop μ-loop
+written c = c .before .before .before
 
--- what a round does, of the bytes that were left
-round : (c : tie.After-serve Inv-loop μ-loop)
-    → AnswerMet (stateOf ((head c) .loop .d) ((head c) .loop .medium)) ((head c) .loop .n)
-    (rest ((start c) .args .input .now) ((head c) .loop .taken))
-    (stateOf (c .serve .result .drive) (c .serve .last .1 .0)) (c .serve .result .calls) (c .serve .result .taken)
-    (c .serve .result .put) (c .serve .last .1 .1 .1 .1 .1 .0)
-round c = c .serve .ensures
+abbrev inputOf : tie.At-loop Inv-loop μ-loop → List ℕ
+inputOf c = (start c) .args .input .now
 
-within : (c : tie.After-serve Inv-loop μ-loop)
-    → (head c) .loop .taken + c .serve .result .taken ≤ length ((start c) .args .input .now)
+-- ---- what a batch does, of the bytes that were left
+met : (c : tie.After-answer-records Inv-loop μ-loop)
+    → AnswerRecordsMet (stateOf (head c .loop .d) (head c .loop .medium)) (head c .loop .n)
+    (rest (inputOf (head c)) (head c .loop .taken)) (c .answer-records .result) (c .answer-records .last .1 .0)
+    (c .answer-records .last .1 .1 .1 .1 .1 .0)
+met c = c .answer-records .ensures
+
+within : (c : tie.After-answer-records Inv-loop μ-loop)
+    → head c .loop .taken + c .answer-records .result .taken ≤ length (inputOf (head c))
 within c =
-    let l = (head c) .loop in
-    omega (arith, l .inv .0, round c .within, length-rest ((start c) .args .input .now) (l .taken))
+    let l = head c .loop in
+    omega (arith, l .inv .0, met c .within, length-rest (inputOf (head c)) (l .taken))
 
-loop-holds : tie.Need-loop-holds Inv-loop μ-loop
-loop-holds c = (omega arith, omega arith, refl, refl, refl)
-
-serve-requires : tie.Need-serve-requires Inv-loop μ-loop
-serve-requires c κs =
-    let l = c .before .before .before .before .loop in
-    let start = c .before .before .before .before .before .before .before .before .before in (
-      omega (arith, l .inv .0, l .inv .1, start .pre .0, length-rest (start .args .input .now) (l .taken)),
-      omega (arith, l .inv .4, start .pre .1),
-      l .inv .3 ∙ start .pre .2,
+answer-records-requires : tie.Need-answer-records-requires Inv-loop μ-loop
+answer-records-requires c κs =
+    let h = c .before .before .before .before in
+    let l = h .loop in
+    let pre = start h .pre in (
+      omega (arith, l .inv .0, l .inv .1, pre .0, length-rest (inputOf h) (l .taken)),
+      omega (arith, l .inv .4, pre .1),
+      l .inv .3 ∙ pre .2,
     )
 
-put-within : (c : tie.After-struct-known Inv-loop μ-loop)
-    → c .before .before .before .before .before .before .before .before .serve .result .put ≤ length (c .before .before .before .before .before .before .before .before .serve .last .1 .1 .1 .1 .1 .0)
-put-within c = round (c .before .before .before .before .before .before .before .before) .fits
-
--- nothing was taken, or nobody takes the output
-stopped : (n : ℕ) (alive : Bool) → (eqb n 0 || not alive) ≡ true → alive ≡ true → n ≡ 0
-stopped n true e h = go (or-cases (eqb n 0) false e)
+-- nothing was taken, or the lines could not be written
+nothing-taken : (n : ℕ) (written : Bool) → (eqb n 0 || not written) ≡ true → written ≡ true → n ≡ 0
+nothing-taken n true e h = go (or-cases (eqb n 0) false e)
   where
     go : (eqb n 0 ≡ true) ⊎ (false ≡ true) → n ≡ 0
     go (inl z) = eqb-true n 0 z
     go (inr z) = cc
-stopped n false e h = cc
+nothing-taken n false e h = cc
 
 returns : tie.Need-returns Inv-loop μ-loop
 returns c =
-    let s = served (c .before) in
-    let l = (head s) .loop in
-    let input : List ℕ = (start s) .args .input .now in
-    let t : ℕ = s .serve .result .taken in
+    let b = batch (written (c .before)) in
+    let l = head b .loop in
+    let input : List ℕ = inputOf (head b) in
+    let t : ℕ = b .answer-records .result .taken in
     record {
-      within = within s;
-      counted = omega (arith, l .inv .1, round s .counted);
+      within = within b;
+      counted = omega (arith, l .inv .1, met b .counted);
       all = λ h.
-          let z : t ≡ 0 = stopped t (c .before .before .write-all .result) (c .if1 .taken) h in
+          let z : t ≡ 0 = nothing-taken t (c .before .before .write-all .result) (c .if1 .taken) h in
           let at : l .taken ≡ l .taken + t = omega (arith, z) in
           subst (λ (x : List ℕ). broken x ≡ true)
-          (rest-all input (l .taken) ∙ ap (λ (k : ℕ). drop k input) at) (round s .stuck z);
+          (rest-all input (l .taken) ∙ ap (λ (k : ℕ). drop k input) at) (met b .stuck z);
     }
 
-some : (c : tie.Else1 Inv-loop μ-loop) → (served (c .before)) .serve .result .taken ≡ 0 → ⊥
-some c = eqb-false ((served (c .before)) .serve .result .taken) 0
-    (or-l (eqb ((served (c .before)) .serve .result .taken) 0) (not (c .before .before .write-all .result)) (c .if1 .left))
-
 loop-less : tie.Need-loop-less Inv-loop μ-loop
-loop-less c = omega (arith, within (served (c .before)), some c)
+loop-less c =
+    let b = batch (written (c .before)) in
+    let t : ℕ = b .answer-records .result .taken in
+    omega (arith, within b, eqb-false t 0 (or-l (eqb t 0) (not (c .before .before .write-all .result)) (c .if1 .left)))
+
+-- the lent buffers stay as long as they were
+long : (c : tie.After-answer-records Inv-loop μ-loop)
+    → (length (c .answer-records .last .1 .0) ≡ length (start (head c) .args .medium .now))
+    × (length (c .answer-records .last .1 .1 .1 .1 .0) ≡ length (start (head c) .args .reply .now))
+    × (length (c .answer-records .last .1 .1 .1 .1 .1 .0) ≡ length (start (head c) .args .out .now))
+long c =
+    let k = c .answer-records .kept in
+    let i = head c .loop .inv in
+    (k .1 .0 ∙ i .2, k .1 .1 .1 .1 .0 ∙ i .3, k .1 .1 .1 .1 .1 .0 ∙ i .4)
 
 loop-again : tie.Need-loop-again Inv-loop μ-loop
 loop-again c =
-    let s = served (c .before) in
-    let l = (head s) .loop in
-    let k = s .serve .kept in (
-      within s,
-      omega (arith, l .inv .1, round s .counted),
-      k .1 .0 ∙ l .inv .2,
-      k .1 .1 .1 .1 .0 ∙ l .inv .3,
-      k .1 .1 .1 .1 .1 .0 ∙ l .inv .4,
-    )
-
-same-length : tie.Need-same-length Inv-loop μ-loop
-same-length c = let s = served (c .before) in s .serve .kept .1 .0 ∙ (head s) .loop .inv .2
-
-same-length-2 : tie.Need-same-length-2 Inv-loop μ-loop
-same-length-2 c = let s = served (c .before) in s .serve .kept .1 .1 .1 .1 .0 ∙ (head s) .loop .inv .3
-
-same-length-3 : tie.Need-same-length-3 Inv-loop μ-loop
-same-length-3 c = let s = served (c .before) in s .serve .kept .1 .1 .1 .1 .1 .0 ∙ (head s) .loop .inv .4
+    let b = batch (written (c .before)) in
+    let k = long b in
+    (within b, omega (arith, head b .loop .inv .1, met b .counted), k .0, k .1, k .2)
 
 pub drain-spec : {M : Type 1} → statement M
 drain-spec =
     tie.close
     (tie.spec
-    Inv-loop μ-loop loop-holds (λ c. omega arith) (λ c. search needs) (λ c. search needs) serve-requires
-    (λ c. omega (arith, within (c .before .before .before .before .before .before .before .before))) (λ c. put-within c) (λ c. sym (length-take-le _ _ (put-within (c .before))))
-    (λ c κs. tt) same-length same-length-2 same-length-3 returns loop-less loop-again)
+    Inv-loop μ-loop (λ c. (omega arith, omega arith, refl, refl, refl)) (λ c. omega arith) (λ c. search needs)
+    (λ c. search needs) answer-records-requires (λ c. omega (arith, within (batch c))) (λ c. met (batch c) .fits)
+    (λ c. sym (length-take-le _ _ (met (batch (c .before)) .fits)))
+    (λ c κs. tt) (λ c. long (batch (written (c .before))) .0) (λ c. long (batch (written (c .before))) .1)
+    (λ c. long (batch (written (c .before))) .2) returns loop-less loop-again)

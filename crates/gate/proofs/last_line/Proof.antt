@@ -1,4 +1,4 @@
--- Either line, by what is told.
+-- Either line, by the test.
 use borrow.Author.Needs.{needs}
 use Rattle.gate.proofs.last_line.Statement.{statement}
 use Rattle.gate.proofs.last_line.Tie as tie

@@ -14,16 +14,16 @@ returns : tie.Need-returns
 unfolding part
 returns c =
     let a = c .before .before .args in
-    let none : a .rest .to - a .rest .from ≡ 0 = omega arith in
+    let none : a .pending .to - a .pending .from ≡ 0 = omega arith in
     record { order = omega arith; count = omega arith; room = omega arith; same = rw none refl }
 
 returns-3 : tie.Need-returns-3
 returns-3 c =
     let a = c .before .before .before .before .before .before .before .args in
     let buf : List ℕ = a .input .now in
-    let n : ℕ = a .rest .to - a .rest .from in
-    let moved : List ℕ = part buf (a .rest .from) n in
-    let long : length moved ≡ n = length-part buf (a .rest .from) n (omega arith) in
+    let n : ℕ = a .pending .to - a .pending .from in
+    let moved : List ℕ = part buf (a .pending .from) n in
+    let long : length moved ≡ n = length-part buf (a .pending .from) n (omega arith) in
     record {
       order = omega arith;
       count = omega arith;

@@ -1,4 +1,4 @@
--- Each turn that goes on has read a byte more.
+-- Each read that the loop goes on after has brought a byte more.
 use mathlib.Core.Path.{_≡_, refl, _∙_}
 use mathlib.Core.Bool.{true, false}
 use Prim.Native.Nat.{ℕ, _+_, _-_, _^_, _≤_, _<_}
@@ -6,49 +6,50 @@ use native.Mathlib.Omega.{arith}
 use lib.ListN.{length}
 use borrow.Author.Needs.{needs}
 use borrow.Author.Tests.{not-false}
-use Rattle.gate.specs.Promises.{BetweenReads}
+use Rattle.gate.specs.Promises.{inputLimit, LoopInvariant}
 use Rattle.gate.proofs.run.Statement.{statement}
 use Rattle.gate.proofs.run.Tie as tie
 
 abbrev Inv-loop : tie.InvT-loop
 Inv-loop medium₀ input₀ reply₀ out₀ t₀ medium input reply out t =
-    BetweenReads (t .calls) (t .seen) (t .rest .from) (t .rest .to)
-    × (length medium ≡ length medium₀) × (length input ≡ length input₀) × (length reply ≡ length reply₀)
-    × (length out ≡ length out₀)
+    LoopInvariant t × (length medium ≡ length medium₀) × (length input ≡ length input₀)
+    × (length reply ≡ length reply₀) × (length out ≡ length out₀)
 
 abbrev μ-loop : tie.MeasureT-loop
-μ-loop medium₀ input₀ reply₀ out₀ t₀ medium input reply out t = 2 ^ 63 - t .seen
+μ-loop medium₀ input₀ reply₀ out₀ t₀ medium input reply out t = inputLimit - t .received
 
-loop-holds : tie.Need-loop-holds Inv-loop μ-loop
-loop-holds c = (((omega arith, omega arith, omega arith), omega arith), refl, refl, refl, refl)
+-- ---- places, each seen from a later one: the start, the loop's head, its test, the step, where the loop goes on
+abbrev start : tie.At-loop Inv-loop μ-loop → tie.Start Inv-loop μ-loop
+start c = c .before .before .before .before .before
 
-turn-requires : tie.Need-turn-requires Inv-loop μ-loop
-turn-requires c κs =
-    let l = c .before .before .before .before .before .before .loop in
-    let start = c .before .before .before .before .before .before .before .before .before .before .before in
-    (l .inv .0, omega (arith, c .before .before .before .before .if1 .taken), omega (arith, l .inv .2, start .pre .0), omega (arith, l .inv .4, start .pre .1), l .inv .3 ∙ start .pre .2)
+abbrev head : tie.Then1 Inv-loop μ-loop → tie.At-loop Inv-loop μ-loop
+head c = c .before .before
 
--- the turn, seen from the end of one that goes on
-abbrev turned : tie.Else2 Inv-loop μ-loop → tie.After-turn Inv-loop μ-loop
-turned c = c .before .before .before .before .before .before .before .before .before .before
+abbrev test : tie.After-read-and-answer Inv-loop μ-loop → tie.Then1 Inv-loop μ-loop
+test c = c .before .before .before .before .before
 
--- what a turn that goes on leaves
+abbrev step : tie.Else2 Inv-loop μ-loop → tie.After-read-and-answer Inv-loop μ-loop
+step c = c .before .before .before .before .before .before .before .before .before .before
+
+read-and-answer-requires : tie.Need-read-and-answer-requires Inv-loop μ-loop
+read-and-answer-requires c κs =
+    let t = c .before .before .before .before in
+    let i = head t .loop .inv in
+    let pre = start (head t) .pre in
+    (i .0, omega (arith, t .if1 .taken), omega (arith, i .2, pre .0), omega (arith, i .4, pre .1), i .3 ∙ pre .2)
+
+-- what a step leaves after which the loop goes on
 kept : (c : tie.Else2 Inv-loop μ-loop)
-    → BetweenReads ((turned c) .turn .result .calls) ((turned c) .turn .result .seen)
-    ((turned c) .turn .result .rest .from) ((turned c) .turn .result .rest .to)
-    × ((turned c) .before .before .before .before .before .before .before .loop .t .seen < (turned c) .turn .result .seen)
-kept c = (turned c) .turn .ensures (not-false ((turned c) .turn .result .go) (c .if2 .left))
-
-loop-less : tie.Need-loop-less Inv-loop μ-loop
-loop-less c = omega (arith, kept c .1, (turned c) .before .before .before .before .before .if1 .taken)
-
-loop-again : tie.Need-loop-again Inv-loop μ-loop
-loop-again c = (kept c .0, search needs, search needs, search needs, search needs)
+    → LoopInvariant (step c .read-and-answer .result)
+    × (head (test (step c)) .loop .t .received < step c .read-and-answer .result .received)
+kept c = step c .read-and-answer .ensures (not-false (step c .read-and-answer .result .running) (c .if2 .left))
 
 pub run-spec : {M : Type 1} → statement M
 run-spec =
     tie.close
     (tie.spec
-    Inv-loop μ-loop loop-holds turn-requires (λ c. search needs) (λ c. search needs) (λ c. search needs)
-    (λ c. search needs) (λ c. tt) loop-less loop-again (λ c κs. tt) (λ c. search needs) (λ c. search needs)
-    (λ c. search needs) (λ c. search needs) (λ c. tt))
+    Inv-loop μ-loop (λ c. (((omega arith, omega arith, omega arith), omega arith), refl, refl, refl, refl))
+    read-and-answer-requires (λ c. search needs) (λ c. search needs) (λ c. search needs)
+    (λ c. search needs) (λ c. tt) (λ c. omega (arith, kept c .1, test (step c) .if1 .taken))
+    (λ c. (kept c .0, search needs, search needs, search needs, search needs)) (λ c κs. tt) (λ c. search needs)
+    (λ c. search needs) (λ c. search needs) (λ c. search needs) (λ c. tt))

@@ -1,4 +1,4 @@
--- The loop's invariant: the bytes passed stand at the front, and none behind them has changed.
+-- The loop's invariant: the bytes moved are at the front, and none after them has changed.
 use mathlib.Core.Path.{_≡_, refl, sym, ap, ap₂, _∙_}
 use mathlib.Core.List.{List, [], _∷_, _++_}
 use Prim.Native.Nat.{ℕ, suc, _+_, _-_, _≤_, _<_}

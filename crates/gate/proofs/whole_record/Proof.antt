@@ -1,4 +1,4 @@
--- A whole record's values are those that its answer tells; else both are 0.
+-- A whole record has the values that its answer gives; else both are 0.
 use mathlib.Core.Path.{_≡_, refl, sym, ap, _∙_}
 use mathlib.Core.Bool.{true, false}
 use mathlib.Core.List.{List}
@@ -8,8 +8,8 @@ use lib.ListN.{length}
 use borrow.Author.Needs.{needs}
 use Rattle.record.specs.declared.Arrived.{Arrived}
 use Rattle.record.specs.Arrival.{factsOf, recordFacts}
-use Rattle.record.specs.Arriving.{IsWhole, facts-of-whole, facts-of-broken, facts-of-short, wrong-broken}
-use Rattle.gate.specs.Promises.{next-none}
+use Rattle.record.specs.ArrivalLaws.{IsWhole, facts-of-whole, facts-of-malformed, facts-of-short, malformed-broken}
+use Rattle.gate.specs.Promises.{none-whole}
 use Rattle.gate.proofs.whole_record.Statement.{statement}
 use Rattle.gate.proofs.whole_record.Tie as tie
 
@@ -36,13 +36,13 @@ returns c =
 returns-2 : tie.Need-returns-2
 returns-2 c =
     let s : List ℕ = c .before .before .before .before .args .input .now in
-    next-none s (wrong-broken s (facts-of-broken s
+    none-whole s (malformed-broken s (facts-of-malformed s
     (ap factsOf (sym (c .enum-told .given .1)) ∙ c .before .before .arrival .ensures)))
 
 returns-3 : tie.Need-returns-3
 returns-3 c =
     let s : List ℕ = c .before .before .before .before .args .input .now in
-    next-none s (facts-of-short s (ap factsOf (sym (c .enum-told2 .given .1)) ∙ c .before .before .arrival .ensures) .0)
+    none-whole s (facts-of-short s (ap factsOf (sym (c .enum-told2 .given .1)) ∙ c .before .before .arrival .ensures) .0)
 
 pub whole-record-spec : {M : Type 1} → statement M
 whole-record-spec =

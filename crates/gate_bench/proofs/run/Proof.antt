@@ -1,4 +1,4 @@
--- A block less is left after each turn.
+-- One block fewer is left each time round.
 use mathlib.Core.Path.{_≡_, refl, sym, _∙_}
 use Prim.Native.Nat.{_≤_, _<_}
 use native.Mathlib.Omega.{arith}

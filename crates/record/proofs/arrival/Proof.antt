@@ -9,7 +9,7 @@ use borrow.Author.Needs.{needs}
 use borrow.Author.Tests.{le-leb}
 use Rattle.lemmas.specs.BigEndian.{numberAt}
 use Rattle.rules.specs.Program.{frameLength}
-use Rattle.record.specs.Arriving.{wrong-broken, head-short, frame-short, all-there, facts-when-broken, facts-when-whole}
+use Rattle.record.specs.ArrivalLaws.{malformed-broken, head-short, frame-short, all-there, facts-when-broken, facts-when-whole}
 use Rattle.record.proofs.arrival.Statement.{statement}
 use Rattle.record.proofs.arrival.Tie as tie
 
@@ -22,26 +22,26 @@ size c =
 returns : tie.Need-returns
 returns c =
     let s : List ℕ = c .before .before .before .args .input .now in
-    let w = sym (c .before .is-wrong .ensures) ∙ c .if1 .taken in
-    sym (facts-when-broken s true (wrong-broken s w) w)
+    let w = sym (c .before .is-malformed .ensures) ∙ c .if1 .taken in
+    sym (facts-when-broken s true (malformed-broken s w) w)
 
 returns-2 : tie.Need-returns-2
 returns-2 c =
     let s : List ℕ = c .before .before .before .before .args .input .now in
-    let w = sym (c .before .before .is-wrong .ensures) ∙ c .before .if1 .left in
+    let w = sym (c .before .before .is-malformed .ensures) ∙ c .before .if1 .left in
     sym (facts-when-broken s false (head-short s (c .if2 .taken)) w)
 
 returns-3 : tie.Need-returns-3
 returns-3 c =
     let s : List ℕ = c .before .before .before .before .before .before .args .input .now in
-    let w = sym (c .before .before .before .before .is-wrong .ensures) ∙ c .before .before .before .if1 .left in
+    let w = sym (c .before .before .before .before .is-malformed .ensures) ∙ c .before .before .before .if1 .left in
     sym (facts-when-broken s false (frame-short s (omega (arith, size (c .before)))) w)
 
 returns-4 : tie.Need-returns-4
 returns-4 c =
     let s : List ℕ = c .before .before .before .before .before .before .before .args .input .now in
     let n = c .before .before in
-    let w = sym (n .before .before .before .is-wrong .ensures) ∙ n .before .before .if1 .left in
+    let w = sym (n .before .before .before .is-malformed .ensures) ∙ n .before .before .if1 .left in
     let head : 14 ≤ length s = n .before .if2 .left in
     let clock : c .number2 .result ≡ numberAt s 2 8 =
     c .number2 .ensures .0 ∙ (rw (le-leb 10 (length s) (omega (arith, head)))) in

@@ -1,4 +1,4 @@
--- The byte stands where the text starts.
+-- The byte is stored where the text starts.
 use mathlib.Core.Path.{_≡_, ap, _∙_}
 use mathlib.Core.List.{List, _∷_}
 use Prim.Native.Nat.{ℕ, suc, _-_}

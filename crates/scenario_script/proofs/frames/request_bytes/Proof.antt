@@ -1,4 +1,4 @@
--- One number a turn.
+-- One number each time round.
 use mathlib.Core.Path.{_≡_, refl}
 use Prim.Native.Nat.{_≤_, _-_}
 use native.Mathlib.Omega.{arith}

@@ -1,4 +1,4 @@
--- One word a turn.
+-- One word each time round.
 use Prim.Native.Nat.{_≤_, _-_}
 use native.Mathlib.Omega.{arith}
 use borrow.Author.Needs.{needs}

@@ -1,4 +1,4 @@
--- One word of the table a turn.
+-- One word of the table each time round.
 use Prim.Native.Nat.{_≤_, _-_}
 use native.Mathlib.Omega.{arith}
 use borrow.Author.Needs.{needs}

@@ -1,5 +1,4 @@
-// One line of the script: all that it does but what is done to the drive. The numbers of a turn stand at the places that
-// `words` names.
+// Plays one line of the script, but for what the line does to the drive. `words` names the places of the player's numbers.
 ghost use Prim.Native.Nat.{_<_};
 use scenario_script::frames;
 use scenario_script::frames::four;
@@ -7,32 +6,47 @@ use scenario_script::frames::one;
 use scenario_script::say;
 use scenario_script::script;
 use scenario_script::words;
+use scenario_script::words::NUMBERS;
 
-// What goes from line to line: the numbers; the key in the slot that the line names; the key that is kept.
-pub struct Turn {
-    pub numbers: [u64; 76],
-    pub key: [u8; 32],
-    pub kept: [u8; 32],
+// The sizes of the drive's key store and of its tables, and of one partition's table; how many keys there are.
+const KEYS: usize = 462;
+
+const TABLES: usize = 268;
+
+const TABLE: usize = 67;
+
+const KEY_COUNT: usize = 14;
+
+const KEY_SIZE: usize = 32;
+
+// How many numbers a line has at most.
+const LINE_NUMBERS: usize = 7;
+
+// The player's state between two lines: its numbers; the key in the slot that the line names; the key that is kept.
+pub struct Player {
+    pub numbers: [u64; NUMBERS],
+    pub key: [u8; KEY_SIZE],
+    pub kept: [u8; KEY_SIZE],
 }
 
 // Before the first line.
-pub fn first_turn() -> Turn {
-    Turn {
-        numbers: [0u64; 76],
-        key: [0u8; 32],
-        kept: [0u8; 32],
+pub fn initial() -> Player {
+    Player {
+        numbers: [0u64; NUMBERS],
+        key: [0u8; KEY_SIZE],
+        kept: [0u8; KEY_SIZE],
     }
 }
 
-// The line that a turn plays.
-fn line_of<'a>(script: &'a [u8], n: [u64; 76]) -> &'a [u8] {
+// The line that is played.
+fn line_of<'a>(script: &'a [u8], n: [u64; NUMBERS]) -> &'a [u8] {
     let from = n[words::FROM] as usize;
     let to = n[words::TO] as usize;
     script::part(script, from, to)
 }
 
 // At the line to play next: the same one where it is a call that is to be repeated.
-fn moved(old: [u64; 76], script: &[u8]) -> [u64; 76] {
+fn moved(old: [u64; NUMBERS], script: &[u8]) -> [u64; NUMBERS] {
     let mut n = old;
     if words::sends(n[words::WORD] as usize) & (n[words::REPEAT] > 1) {
         n[words::REPEAT] = std::num::wrapping_sub_u64(n[words::REPEAT], 1);
@@ -59,13 +73,13 @@ fn absent(x: u64, base: usize) -> u64 {
 }
 
 // With the line's numbers, from a place on.
-fn parsed(old: [u64; 76], line: &[u8], base: usize) -> [u64; 76] {
+fn parsed(old: [u64; NUMBERS], line: &[u8], base: usize) -> [u64; NUMBERS] {
     let mut n = old;
     if base > words::A {
         return n;
     }
     let mut i: usize = 0;
-    while i < 7 {
+    while i < LINE_NUMBERS {
         let x = absent(n[base + i], base);
         n[base + i] = script::number_or(line, i + 1, x);
         i += 1;
@@ -79,7 +93,7 @@ fn back_to(place: u64) -> u64 {
 }
 
 // With the place where the script goes on: `do` goes to a part, `done` back behind the `do`.
-fn led(old: [u64; 76], script: &[u8], line: &[u8]) -> [u64; 76] {
+fn led(old: [u64; NUMBERS], script: &[u8], line: &[u8]) -> [u64; NUMBERS] {
     let mut n = old;
     let word = n[words::WORD] as usize;
     if word == words::DO {
@@ -94,7 +108,7 @@ fn led(old: [u64; 76], script: &[u8], line: &[u8]) -> [u64; 76] {
 }
 
 // The next line.
-pub fn next(old: [u64; 76], script: &[u8]) -> [u64; 76] {
+pub fn next(old: [u64; NUMBERS], script: &[u8]) -> [u64; NUMBERS] {
     let mut n = moved(old, script);
     let line = script::head(line_of(script, n));
     let word = word_of(line, script, n[words::FROM]);
@@ -112,23 +126,23 @@ fn asked(word: usize, own: u64, named: u64) -> u8 {
 }
 
 // The key in the slot that the line names; zeros where none is.
-fn key_for(n: [u64; 76], keys: [u8; 462]) -> [u8; 32] {
+fn key_for(n: [u64; NUMBERS], keys: [u8; KEYS]) -> [u8; KEY_SIZE] {
     let word = n[words::WORD] as usize;
     let p = asked(word, n[words::PARTITION], n[words::A]);
     let slot = asked(word, n[words::SLOT], n[words::B]);
-    let mut key = [0u8; 32];
+    let mut key = [0u8; KEY_SIZE];
     let j = keyring::key_index(slot, p as usize);
-    if j < 14 {
-        let start = 32 * j;
-        let end = start + 32;
+    if j < KEY_COUNT {
+        let start = KEY_SIZE * j;
+        let end = start + KEY_SIZE;
         octets::copy_to(&mut key, 0, &keys[start..end]);
     }
     key
 }
 
 // Where the object of partition 0 starts that a number names; the largest number where it names none.
-fn start_of(tables: [u32; 268], number: u32) -> u64 {
-    let found = state::look_up(&tables[..67], number);
+fn start_of(tables: [u32; TABLES], number: u32) -> u64 {
+    let found = state::look_up(&tables[..TABLE], number);
     let o = found.object;
     if found.missing {
         u64::MAX
@@ -138,35 +152,35 @@ fn start_of(tables: [u32; 268], number: u32) -> u64 {
 }
 
 // With the numbers of partition 0 and of its second object.
-fn with_objects(old: [u64; 76], tables: [u32; 268]) -> [u64; 76] {
+fn with_objects(old: [u64; NUMBERS], tables: [u32; TABLES]) -> [u64; NUMBERS] {
     let mut n = old;
-    n[words::SEEN + 2] = tables[2] as u64;
+    n[words::DRIVE + 2] = tables[2] as u64;
     n[words::LAST] = tables[1] as u64;
     n[words::PLACE] = start_of(tables, four(n[words::A]));
-    n[words::SEEN + 3] = tables[4] as u64;
-    n[words::SEEN + 4] = tables[20] as u64;
-    n[words::SEEN + 5] = tables[36] as u64;
-    n[words::SEEN + 6] = tables[52] as u64;
+    n[words::DRIVE + 3] = tables[4] as u64;
+    n[words::DRIVE + 4] = tables[20] as u64;
+    n[words::DRIVE + 5] = tables[36] as u64;
+    n[words::DRIVE + 6] = tables[52] as u64;
     n
 }
 
 // With what the drive has: M, the mark, how many entries partition 0's memory has, its objects, the keys.
-pub fn noted(
-    old: [u64; 76],
-    kept: [u8; 32],
+pub fn with_drive(
+    old: [u64; NUMBERS],
+    kept: [u8; KEY_SIZE],
     size: usize,
     mark: u64,
     held: usize,
-    keys: [u8; 462],
-    tables: [u32; 268],
-) -> Turn {
+    keys: [u8; KEYS],
+    tables: [u32; TABLES],
+) -> Player {
     let mut n = old;
-    n[words::SEEN] = size as u64;
-    n[words::SEEN + 1] = mark;
-    n[words::SEEN + 7] = held as u64;
+    n[words::DRIVE] = size as u64;
+    n[words::DRIVE + 1] = mark;
+    n[words::DRIVE + 7] = held as u64;
     let key = key_for(n, keys);
     let numbers = with_objects(n, tables);
-    Turn { numbers, key, kept }
+    Player { numbers, key, kept }
 }
 
 // The last version given, and how many objects there are.
@@ -183,16 +197,16 @@ fn show_start(start: u64) {
 }
 
 // Prints what a line asks to see, a title, or that its word is none.
-fn show(n: [u64; 76], key: [u8; 32], line: &[u8]) {
+fn show(n: [u64; NUMBERS], key: [u8; KEY_SIZE], line: &[u8]) {
     let word = n[words::WORD] as usize;
     let label = script::word(line, 0);
-    let place = words::sight_place(word);
+    let place = words::shown_place(word);
     match word {
         0 => say::error(line),
         words::TITLE => say::line(line),
         words::MARK | words::HELD | words::SIZE => say::number(label, n[place]),
-        words::OBJECTS => show_objects(n[words::LAST], n[words::SEEN + 2]),
-        words::RECORD => say::numbers(label, &n[words::SEEN..words::LAST]),
+        words::OBJECTS => show_objects(n[words::LAST], n[words::DRIVE + 2]),
+        words::RECORD => say::numbers(label, &n[words::DRIVE..words::LAST]),
         words::START => show_start(n[words::PLACE]),
         words::KEY => say::bytes(label, &key),
         _ => {}
@@ -201,18 +215,23 @@ fn show(n: [u64; 76], key: [u8; 32], line: &[u8]) {
 
 // The key that a frame is built under: 0 the one that the drive has in the credential's slot, 1 the one that is kept, else
 // a stranger's.
-fn signing_key(signer: u64, key: [u8; 32], kept: [u8; 32]) -> [u8; 32] {
+fn signing_key(signer: u64, key: [u8; KEY_SIZE], kept: [u8; KEY_SIZE]) -> [u8; KEY_SIZE] {
     if signer == 0 {
         return key;
     }
     if signer == 1 {
         return kept;
     }
-    [9u8; 32]
+    [9u8; KEY_SIZE]
 }
 
 // The numbers with the line's frame built. The next one has another nonce, unless a line says otherwise.
-fn framed(old: [u64; 76], key: [u8; 32], line: &[u8], frame: &mut [u8]) -> [u64; 76] {
+fn framed(
+    old: [u64; NUMBERS],
+    key: [u8; KEY_SIZE],
+    line: &[u8],
+    frame: &mut [u8],
+) -> [u64; NUMBERS] {
     let mut n = old;
     n[words::LENGTH] = frames::build(n, key, script::text(line), frame) as u64;
     n[words::COUNT] = std::num::wrapping_add_u64(n[words::COUNT], 1);
@@ -221,7 +240,7 @@ fn framed(old: [u64; 76], key: [u8; 32], line: &[u8], frame: &mut [u8]) -> [u64;
 }
 
 // With what the line prints printed, its frame built, its key kept.
-pub fn ready(t: Turn, script: &[u8], frame: &mut [u8]) -> Turn {
+pub fn prepared(t: Player, script: &[u8], frame: &mut [u8]) -> Player {
     let n = t.numbers;
     let key = t.key;
     let kept = t.kept;
@@ -231,10 +250,10 @@ pub fn ready(t: Turn, script: &[u8], frame: &mut [u8]) -> Turn {
     if words::builds(word) {
         let by = signing_key(n[words::SIGN], key, kept);
         let numbers = framed(n, by, line, frame);
-        return Turn { numbers, key, kept };
+        return Player { numbers, key, kept };
     }
     if word == words::KEEP {
-        return Turn {
+        return Player {
             numbers: n,
             key,
             kept: key,
@@ -244,7 +263,7 @@ pub fn ready(t: Turn, script: &[u8], frame: &mut [u8]) -> Turn {
 }
 
 // Prints the answer to a line that has one.
-pub fn tell(n: [u64; 76], row: u32, length: usize, script: &[u8], space: &[u8]) {
+pub fn print_answer(n: [u64; NUMBERS], row: u32, length: usize, script: &[u8], space: &[u8]) {
     let word = n[words::WORD] as usize;
     if (n[words::QUIET] != 0) | !words::answers(word) {
         return;
@@ -254,7 +273,7 @@ pub fn tell(n: [u64; 76], row: u32, length: usize, script: &[u8], space: &[u8]) 
 }
 
 // How many lines may still be played: one less, and none behind the end.
-pub fn fewer(left: u64, word: u64) -> u64
+pub fn lines_left(left: u64, word: u64) -> u64
     requires { ⌜ 0 < left ⌝ }
     ensures { λ r. ⌜ r < left ⌝ }
 {

@@ -4,8 +4,8 @@ use native.Mathlib.Omega.{arith}
 use lib.ListN.{length}
 use lib.Seq.{length-take-le}
 use borrow.Author.Needs.{needs}
-use Rattle.scenario.proofs.turn.start_of.Statement.{statement}
-use Rattle.scenario.proofs.turn.start_of.Tie as tie
+use Rattle.scenario.proofs.player.start_of.Statement.{statement}
+use Rattle.scenario.proofs.player.start_of.Tie as tie
 
 slice-aggregate-look-up : tie.Need-slice-aggregate-look-up
 slice-aggregate-look-up c =

@@ -1,11 +1,11 @@
--- One number a turn.
+-- One number each time round.
 use mathlib.Core.Path.{_≡_}
 use Prim.Native.Nat.{_≤_, _-_}
 use native.Mathlib.Omega.{arith}
 use lib.ListN.{length}
 use borrow.Author.Needs.{needs}
-use Rattle.scenario.proofs.turn.parsed.Statement.{statement}
-use Rattle.scenario.proofs.turn.parsed.Tie as tie
+use Rattle.scenario.proofs.player.parsed.Statement.{statement}
+use Rattle.scenario.proofs.player.parsed.Tie as tie
 
 abbrev Inv-loop : tie.InvT-loop
 Inv-loop line base n₀ i₀ n i = (i ≤ 7) × (length n ≡ 76)

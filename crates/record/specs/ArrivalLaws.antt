@@ -1,5 +1,5 @@
--- Laws of records that arrive: what makes one broken or whole, and what each answer tells. s: the bytes from a record's
--- start on, as far as they have arrived.
+-- Laws of input records that arrive: what makes one broken or whole, and what each answer says. s: the bytes from a
+-- record's start on, as far as they have arrived.
 use mathlib.Core.Path.{_≡_, refl, sym, ap, _∙_}
 use mathlib.Core.Logic.{_⊎_, inl, inr}
 use mathlib.Core.Bool.{Bool, true, false, not, _&&_, _||_, cond, true≢false}
@@ -14,21 +14,21 @@ use Rattle.lemmas.specs.Tests.{_over_, _under_, _isnt_, and-r, and-rest-false, 
 use Rattle.lemmas.specs.Lists.{part}
 use Rattle.lemmas.specs.BigEndian.{numberAt}
 use Rattle.rules.specs.Program.{recordMagic, recordHead, frameLength, callIn, broken}
-use Rattle.record.specs.declared.Arrived.the-variants.{Whole, Broken, Short}
-use Rattle.record.specs.Arrival.{wrong, RecordFacts, factsOf, recordFacts}
+use Rattle.record.specs.declared.Arrived.the-variants.{Whole, Malformed, Short}
+use Rattle.record.specs.Arrival.{malformed, RecordFacts, factsOf, recordFacts}
 
--- the four tests of a broken record, and those of a wrong one
-abbrev few : List ℕ → Bool
-few s = length s under recordHead
+-- the four tests of a broken record; the middle two make it malformed
+abbrev noHead : List ℕ → Bool
+noHead s = length s under recordHead
 
-abbrev other : List ℕ → Bool
-other s = numberAt s 0 2 isnt recordMagic
+abbrev badMark : List ℕ → Bool
+badMark s = numberAt s 0 2 isnt recordMagic
 
-abbrev long : List ℕ → Bool
-long s = frameLength s over 65_536
+abbrev tooLong : List ℕ → Bool
+tooLong s = frameLength s over 65_536
 
-abbrev lacks : List ℕ → Bool
-lacks s = length s under recordHead + frameLength s
+abbrev noFrame : List ℕ → Bool
+noFrame s = length s under recordHead + frameLength s
 
 -- none of two tests passes
 pub neither : {a b : Bool} → a ≡ false → b ≡ false → (a || b) ≡ false
@@ -40,55 +40,55 @@ there true t x = refl
 there false t x = refl
 
 -- ---- what makes a record broken
-pub wrong-broken : (s : List ℕ) → wrong s ≡ true → broken s ≡ true
+pub malformed-broken : (s : List ℕ) → malformed s ≡ true → broken s ≡ true
 unfolding broken
-wrong-broken s h = go (or-cases (leb 2 (length s) && other s) (leb recordHead (length s) && long s) h)
+malformed-broken s h = go (or-cases (leb 2 (length s) && badMark s) (leb recordHead (length s) && tooLong s) h)
   where
-    go : ((leb 2 (length s) && other s) ≡ true) ⊎ ((leb recordHead (length s) && long s) ≡ true)
-        → (few s || other s || long s || lacks s) ≡ true
+    go : ((leb 2 (length s) && badMark s) ≡ true) ⊎ ((leb recordHead (length s) && tooLong s) ≡ true)
+        → (noHead s || badMark s || tooLong s || noFrame s) ≡ true
     go (inl e) =
-        or-intro-l (few s || other s || long s) (lacks s)
-        (or-intro-l (few s || other s) (long s)
-        (or-intro-r (few s) (other s) (and-r (leb 2 (length s)) (other s) e)))
+        or-intro-l (noHead s || badMark s || tooLong s) (noFrame s)
+        (or-intro-l (noHead s || badMark s) (tooLong s)
+        (or-intro-r (noHead s) (badMark s) (and-r (leb 2 (length s)) (badMark s) e)))
     go (inr e) =
-        or-intro-l (few s || other s || long s) (lacks s)
-        (or-intro-r (few s || other s) (long s) (and-r (leb recordHead (length s)) (long s) e))
+        or-intro-l (noHead s || badMark s || tooLong s) (noFrame s)
+        (or-intro-r (noHead s || badMark s) (tooLong s) (and-r (leb recordHead (length s)) (tooLong s) e))
 
 pub head-short : (s : List ℕ) → length s < recordHead → broken s ≡ true
 unfolding broken
 head-short s h =
-    or-intro-l (few s || other s || long s) (lacks s)
-    (or-intro-l (few s || other s) (long s) (or-intro-l (few s) (other s) (lt-ltb (length s) recordHead h)))
+    or-intro-l (noHead s || badMark s || tooLong s) (noFrame s)
+    (or-intro-l (noHead s || badMark s) (tooLong s) (or-intro-l (noHead s) (badMark s) (lt-ltb (length s) recordHead h)))
 
 pub frame-short : (s : List ℕ) → length s < recordHead + frameLength s → broken s ≡ true
 unfolding broken
-frame-short s h = or-intro-r (few s || other s || long s) (lacks s) (lt-ltb (length s) (recordHead + frameLength s) h)
+frame-short s h = or-intro-r (noHead s || badMark s || tooLong s) (noFrame s) (lt-ltb (length s) (recordHead + frameLength s) h)
 
 -- and what makes it whole
-pub not-wrong : (s : List ℕ) → wrong s ≡ false → recordHead ≤ length s → (other s ≡ false) × (long s ≡ false)
-not-wrong s w h = (
-  and-rest-false (leb 2 (length s)) (other s) (le-leb 2 (length s) (omega arith))
-      (or-l (leb 2 (length s) && other s) (leb recordHead (length s) && long s) w),
-  and-rest-false (leb recordHead (length s)) (long s) (le-leb recordHead (length s) h)
-      (or-r (leb 2 (length s) && other s) (leb recordHead (length s) && long s) w),
+pub not-malformed : (s : List ℕ) → malformed s ≡ false → recordHead ≤ length s → (badMark s ≡ false) × (tooLong s ≡ false)
+not-malformed s w h = (
+  and-rest-false (leb 2 (length s)) (badMark s) (le-leb 2 (length s) (omega arith))
+      (or-l (leb 2 (length s) && badMark s) (leb recordHead (length s) && tooLong s) w),
+  and-rest-false (leb recordHead (length s)) (tooLong s) (le-leb recordHead (length s) h)
+      (or-r (leb 2 (length s) && badMark s) (leb recordHead (length s) && tooLong s) w),
 )
 
-pub all-there : (s : List ℕ) → wrong s ≡ false → recordHead ≤ length s → recordHead + frameLength s ≤ length s
+pub all-there : (s : List ℕ) → malformed s ≡ false → recordHead ≤ length s → recordHead + frameLength s ≤ length s
     → broken s ≡ false
 unfolding broken
 all-there s w h k =
-    let n = not-wrong s w h in
+    let n = not-malformed s w h in
     neither (neither (neither (le-ltb (length s) recordHead h) (n .0)) (n .1))
     (le-ltb (length s) (recordHead + frameLength s) k)
 
 -- ---- the facts of it
-pub facts-when-broken : (s : List ℕ) (b : Bool) → broken s ≡ true → wrong s ≡ b
-    → recordFacts s ≡ record { whole = false; hopeless = b; clock = 0; size = 0 }
+pub facts-when-broken : (s : List ℕ) (b : Bool) → broken s ≡ true → malformed s ≡ b
+    → recordFacts s ≡ record { whole = false; malformed = b; clock = 0; size = 0 }
 unfolding recordFacts
 facts-when-broken s b e w = rw (e, w) refl
 
-pub facts-when-whole : (s : List ℕ) → broken s ≡ false → wrong s ≡ false
-    → recordFacts s ≡ record { whole = true; hopeless = false; clock = callIn s .clock; size = frameLength s }
+pub facts-when-whole : (s : List ℕ) → broken s ≡ false → malformed s ≡ false
+    → recordFacts s ≡ record { whole = true; malformed = false; clock = callIn s .clock; size = frameLength s }
 unfolding recordFacts
 facts-when-whole s e w = rw (e, w) refl
 
@@ -108,14 +108,14 @@ unfolding broken
 whole-facts s e = record {
   whole = e;
   mark = eqb-true (numberAt s 0 2) recordMagic (not-false (eqb (numberAt s 0 2) recordMagic)
-      (or-r (few s) (other s)
-      (or-l (few s || other s) (long s) (or-l (few s || other s || long s) (lacks s) e))));
+      (or-r (noHead s) (badMark s)
+      (or-l (noHead s || badMark s) (tooLong s) (or-l (noHead s || badMark s || tooLong s) (noFrame s) e))));
   reading = refl;
   counted = refl;
   frame = refl;
   most = ltb-false 65_536 (frameLength s)
-      (or-r (few s || other s) (long s) (or-l (few s || other s || long s) (lacks s) e));
-  fits = ltb-false (length s) (recordHead + frameLength s) (or-r (few s || other s || long s) (lacks s) e);
+      (or-r (noHead s || badMark s) (tooLong s) (or-l (noHead s || badMark s || tooLong s) (noFrame s) e));
+  fits = ltb-false (length s) (recordHead + frameLength s) (or-r (noHead s || badMark s || tooLong s) (noFrame s) e);
 }
 
 pub facts-of-whole : (s : List ℕ) (clock size : ℕ) → factsOf (Whole clock size) ≡ recordFacts s → IsWhole s clock size
@@ -126,23 +126,23 @@ facts-of-whole s clock size e =
     let es : size ≡ frameLength s = ap RecordFacts.size e ∙ (rw b) in
     rw (ec, es) (whole-facts s b)
 
-pub facts-of-broken : (s : List ℕ) → factsOf Broken ≡ recordFacts s → wrong s ≡ true
+pub facts-of-malformed : (s : List ℕ) → factsOf Malformed ≡ recordFacts s → malformed s ≡ true
 unfolding recordFacts
-facts-of-broken s e = sym (ap RecordFacts.hopeless e)
+facts-of-malformed s e = sym (ap RecordFacts.malformed e)
 
 -- a record of which more must be read is shorter than the longest record
 pub facts-of-short : (s : List ℕ) → factsOf Short ≡ recordFacts s
-    → (broken s ≡ true) × (wrong s ≡ false) × (length s < recordHead + 65_536)
+    → (broken s ≡ true) × (malformed s ≡ false) × (length s < recordHead + 65_536)
 unfolding recordFacts
 facts-of-short s e =
     let b : broken s ≡ true = not-false (broken s) (sym (ap RecordFacts.whole e)) in
-    let w : wrong s ≡ false = sym (ap RecordFacts.hopeless e) in
+    let w : malformed s ≡ false = sym (ap RecordFacts.malformed e) in
     (b, w, go b w (decLt (length s) recordHead) (decLt (length s) (recordHead + frameLength s)))
   where
-    go : broken s ≡ true → wrong s ≡ false → Dec (length s < recordHead) → Dec (length s < recordHead + frameLength s)
+    go : broken s ≡ true → malformed s ≡ false → Dec (length s < recordHead) → Dec (length s < recordHead + frameLength s)
         → length s < recordHead + 65_536
     go b w (yes h) l = omega arith
     go b w (no h) (yes l) =
-        let n = not-wrong s w (omega arith) in
+        let n = not-malformed s w (omega arith) in
         omega (arith, l, ltb-false 65_536 (frameLength s) (n .1))
     go b w (no h) (no l) = absurd (true≢false (sym b ∙ all-there s w (omega arith) (omega arith)))

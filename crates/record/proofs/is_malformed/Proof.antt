@@ -7,9 +7,9 @@ use lib.Dec.{leb, eqb, ltb}
 use lib.ListN.{length}
 use borrow.Author.Needs.{needs}
 use Rattle.lemmas.specs.BigEndian.{numberAt}
-use Rattle.record.specs.Arriving.{there}
-use Rattle.record.proofs.is_wrong.Statement.{statement}
-use Rattle.record.proofs.is_wrong.Tie as tie
+use Rattle.record.specs.ArrivalLaws.{there}
+use Rattle.record.proofs.is_malformed.Statement.{statement}
+use Rattle.record.proofs.is_malformed.Tie as tie
 
 returns : tie.Need-returns
 returns c =
@@ -19,5 +19,5 @@ returns c =
     (there (leb 2 (length s)) (λ (x : ℕ). not (eqb x 0x4c49)) (numberAt s 0 2))
     (there (leb 14 (length s)) (λ (x : ℕ). ltb 65_536 x) (numberAt s 10 4)))
 
-pub is-wrong-spec : {M : Type 1} → statement M
-is-wrong-spec = tie.close (tie.spec (λ c κs. search needs) (λ c κs. search needs) returns)
+pub is-malformed-spec : {M : Type 1} → statement M
+is-malformed-spec = tie.close (tie.spec (λ c κs. search needs) (λ c κs. search needs) returns)
