@@ -1,4 +1,4 @@
--- Laws of records that arrive: what makes one broken or whole, and what each answer tells. s: the bytes from a record's
+-- Laws of input records that arrive: what makes one broken or whole, and what each answer says. s: the bytes from its
 -- start on, as far as they have arrived.
 use mathlib.Core.Path.{_≡_, refl, sym, ap, _∙_}
 use mathlib.Core.Logic.{_⊎_, inl, inr}
@@ -10,22 +10,16 @@ use native.Mathlib.Omega.{arith}
 use lib.Dec.{leb, eqb}
 use lib.ListN.{length}
 use borrow.Author.Tests.{lt-ltb, le-ltb, le-leb, ltb-false, eqb-true, not-true, not-false}
-use Rattle.lemmas.specs.Tests.{_over_, _under_, _isnt_, and-r, and-rest-false, or-l, or-r, or-cases, or-intro-l, or-intro-r}
+use Rattle.lemmas.specs.Tests.{_under_, and-r, and-rest-false, or-l, or-r, or-cases, or-intro-l, or-intro-r}
 use Rattle.lemmas.specs.Lists.{part}
 use Rattle.lemmas.specs.BigEndian.{numberAt}
-use Rattle.rules.specs.Program.{recordMagic, recordHead, frameLength, callIn, broken}
+use Rattle.rules.specs.Program.{broken, callIn, clockStart, frameLength, otherMark, overlong, recordHead, recordMagic}
 use Rattle.record.specs.declared.Arrived.the-variants.{Whole, Broken, Short}
 use Rattle.record.specs.Arrival.{wrong, RecordFacts, factsOf, recordFacts}
 
--- the four tests of a broken record, and those of a wrong one
+-- the first and the last test of a broken input record
 abbrev few : List ℕ → Bool
 few s = length s under recordHead
-
-abbrev other : List ℕ → Bool
-other s = numberAt s 0 2 isnt recordMagic
-
-abbrev long : List ℕ → Bool
-long s = frameLength s over 65_536
 
 abbrev lacks : List ℕ → Bool
 lacks s = length s under recordHead + frameLength s
@@ -39,38 +33,38 @@ pub there : (b : Bool) (t : ℕ → Bool) (x : ℕ) → (b && t (cond (not b) 0 
 there true t x = refl
 there false t x = refl
 
--- ---- what makes a record broken
+-- ---- what makes it broken
 pub wrong-broken : (s : List ℕ) → wrong s ≡ true → broken s ≡ true
 unfolding broken
-wrong-broken s h = go (or-cases (leb 2 (length s) && other s) (leb recordHead (length s) && long s) h)
+wrong-broken s h = go (or-cases (leb clockStart (length s) && otherMark s) (leb recordHead (length s) && overlong s) h)
   where
-    go : ((leb 2 (length s) && other s) ≡ true) ⊎ ((leb recordHead (length s) && long s) ≡ true)
-        → (few s || other s || long s || lacks s) ≡ true
+    go : ((leb clockStart (length s) && otherMark s) ≡ true) ⊎ ((leb recordHead (length s) && overlong s) ≡ true)
+        → (few s || otherMark s || overlong s || lacks s) ≡ true
     go (inl e) =
-        or-intro-l (few s || other s || long s) (lacks s)
-        (or-intro-l (few s || other s) (long s)
-        (or-intro-r (few s) (other s) (and-r (leb 2 (length s)) (other s) e)))
+        or-intro-l (few s || otherMark s || overlong s) (lacks s)
+        (or-intro-l (few s || otherMark s) (overlong s)
+        (or-intro-r (few s) (otherMark s) (and-r (leb clockStart (length s)) (otherMark s) e)))
     go (inr e) =
-        or-intro-l (few s || other s || long s) (lacks s)
-        (or-intro-r (few s || other s) (long s) (and-r (leb recordHead (length s)) (long s) e))
+        or-intro-l (few s || otherMark s || overlong s) (lacks s)
+        (or-intro-r (few s || otherMark s) (overlong s) (and-r (leb recordHead (length s)) (overlong s) e))
 
 pub head-short : (s : List ℕ) → length s < recordHead → broken s ≡ true
 unfolding broken
 head-short s h =
-    or-intro-l (few s || other s || long s) (lacks s)
-    (or-intro-l (few s || other s) (long s) (or-intro-l (few s) (other s) (lt-ltb (length s) recordHead h)))
+    or-intro-l (few s || otherMark s || overlong s) (lacks s)
+    (or-intro-l (few s || otherMark s) (overlong s) (or-intro-l (few s) (otherMark s) (lt-ltb (length s) recordHead h)))
 
 pub frame-short : (s : List ℕ) → length s < recordHead + frameLength s → broken s ≡ true
 unfolding broken
-frame-short s h = or-intro-r (few s || other s || long s) (lacks s) (lt-ltb (length s) (recordHead + frameLength s) h)
+frame-short s h = or-intro-r (few s || otherMark s || overlong s) (lacks s) (lt-ltb (length s) (recordHead + frameLength s) h)
 
 -- and what makes it whole
-pub not-wrong : (s : List ℕ) → wrong s ≡ false → recordHead ≤ length s → (other s ≡ false) × (long s ≡ false)
+pub not-wrong : (s : List ℕ) → wrong s ≡ false → recordHead ≤ length s → (otherMark s ≡ false) × (overlong s ≡ false)
 not-wrong s w h = (
-  and-rest-false (leb 2 (length s)) (other s) (le-leb 2 (length s) (omega arith))
-      (or-l (leb 2 (length s) && other s) (leb recordHead (length s) && long s) w),
-  and-rest-false (leb recordHead (length s)) (long s) (le-leb recordHead (length s) h)
-      (or-r (leb 2 (length s) && other s) (leb recordHead (length s) && long s) w),
+  and-rest-false (leb clockStart (length s)) (otherMark s) (le-leb clockStart (length s) (omega arith))
+      (or-l (leb clockStart (length s) && otherMark s) (leb recordHead (length s) && overlong s) w),
+  and-rest-false (leb recordHead (length s)) (overlong s) (le-leb recordHead (length s) h)
+      (or-r (leb clockStart (length s) && otherMark s) (leb recordHead (length s) && overlong s) w),
 )
 
 pub all-there : (s : List ℕ) → wrong s ≡ false → recordHead ≤ length s → recordHead + frameLength s ≤ length s
@@ -93,7 +87,7 @@ unfolding recordFacts
 facts-when-whole s e w = rw (e, w) refl
 
 -- ---- the facts of each answer
--- a whole record: its clock and its frame are document 01's, and the frame lies within the bytes that are there
+-- whole: its clock and its frame are document 01's, and the frame lies within the bytes that are there
 pub record IsWhole (s : List ℕ) (clock size : ℕ) : Type 0 where
   pub whole : broken s ≡ false
   pub mark : numberAt s 0 2 ≡ recordMagic
@@ -108,14 +102,14 @@ unfolding broken
 whole-facts s e = record {
   whole = e;
   mark = eqb-true (numberAt s 0 2) recordMagic (not-false (eqb (numberAt s 0 2) recordMagic)
-      (or-r (few s) (other s)
-      (or-l (few s || other s) (long s) (or-l (few s || other s || long s) (lacks s) e))));
+      (or-r (few s) (otherMark s)
+      (or-l (few s || otherMark s) (overlong s) (or-l (few s || otherMark s || overlong s) (lacks s) e))));
   reading = refl;
   counted = refl;
   frame = refl;
   most = ltb-false 65_536 (frameLength s)
-      (or-r (few s || other s) (long s) (or-l (few s || other s || long s) (lacks s) e));
-  fits = ltb-false (length s) (recordHead + frameLength s) (or-r (few s || other s || long s) (lacks s) e);
+      (or-r (few s || otherMark s) (overlong s) (or-l (few s || otherMark s || overlong s) (lacks s) e));
+  fits = ltb-false (length s) (recordHead + frameLength s) (or-r (few s || otherMark s || overlong s) (lacks s) e);
 }
 
 pub facts-of-whole : (s : List ℕ) (clock size : ℕ) → factsOf (Whole clock size) ≡ recordFacts s → IsWhole s clock size
@@ -130,7 +124,7 @@ pub facts-of-broken : (s : List ℕ) → factsOf Broken ≡ recordFacts s → wr
 unfolding recordFacts
 facts-of-broken s e = sym (ap RecordFacts.hopeless e)
 
--- a record of which more must be read is shorter than the longest record
+-- one of which more must be read is shorter than the longest
 pub facts-of-short : (s : List ℕ) → factsOf Short ≡ recordFacts s
     → (broken s ≡ true) × (wrong s ≡ false) × (length s < recordHead + 65_536)
 unfolding recordFacts
