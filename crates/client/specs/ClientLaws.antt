@@ -2,21 +2,21 @@
 use mathlib.Core.Path.{_∙_, _≡_, ap, refl, sym}
 use mathlib.Core.Bool.{Bool, false, not, true}
 use mathlib.Core.List.{[], _++_, append-assoc, append-nil, List}
-use Prim.Native.Nat.{_+_, _-_, _<_, _≤_, ℕ}
+use Prim.Native.Nat.{_+_, _-_, _≤_, ℕ}
 use native.Mathlib.Omega.{arith}
 use lib.Dec.{leb}
-use lib.ListN.{getD, length-append, replicate, take, length}
-use borrow.Author.Tests.{eq-eqb, eqb-true, le-leb, le-ltb, leb-false, leb-true, lt-ltb, ltb-false, ne-eqb, not-false}
-use Rattle.lemmas.specs.BigEndian.{layoutSize, length-encode}
+use lib.ListN.{length-append, replicate, take, length}
+use borrow.Author.Tests.{eq-eqb, le-leb, le-ltb, leb-false, leb-true, lt-ltb, ltb-false, ne-eqb}
+use Rattle.lemmas.specs.BigEndian.{length-encode}
 use Rattle.lemmas.specs.Layout.{splice-after-size}
 use Rattle.lemmas.specs.Lists.{every, splice}
 use Rattle.lemmas.specs.Parts.{length-splice, splice-front}
 use Rattle.lemmas.specs.RowTable.{applies, firstRow, none-applies}
-use Rattle.lemmas.specs.Tests.{_is_, _isnt_, _under_, none-of, or-l}
+use Rattle.lemmas.specs.Tests.{_isnt_, _under_, or-l}
 use Rattle.digest.specs.Hmac.{hmac}
 use Rattle.rules.specs.declared.Credential.{Credential}
 use Rattle.rules.specs.declared.Request.{Request}
-use Rattle.rules.specs.Client.{badRecords, build, buildRows, frameOf, issue, issueRows, recordFaults}
+use Rattle.rules.specs.Client.{badRecords, build, buildRows, frameOf, issue, issueRows}
 use Rattle.rules.specs.Frame.{
   covered,
   credential-size,

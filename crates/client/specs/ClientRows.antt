@@ -1,6 +1,6 @@
 -- Document 01, rows 26, 28 and 29, as the code judges them: by the lengths of what is lent.
 use mathlib.Core.Path.{_≡_, refl}
-use mathlib.Core.Bool.{_||_, Bool}
+use mathlib.Core.Bool.{_||_}
 use mathlib.Core.List.{[], _∷_, List}
 use Prim.Native.Nat.{_+_, ℕ}
 use lib.ListN.{length}

@@ -13,7 +13,7 @@ use Rattle.rules.specs.declared.Credential.{Credential}
 use Rattle.rules.specs.declared.Request.{Request}
 use Rattle.rules.specs.Frame.{credentialAt, credentialOf, credentialSize, credentialWidths, requestAt, requestOf, requestSize, requestWidths}
 
--- the one that stands at place i; all zeros where it is not all there
+-- the one at place i; all zeros where it is not all there
 abbrev pub credentialIn : List ℕ → ℕ → Credential
 credentialIn s i = cond (leb (i + credentialSize) (length s)) (credentialAt s i) (credentialOf [])
 

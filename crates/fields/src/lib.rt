@@ -27,7 +27,7 @@ pub const REQUEST_FIELDS: usize = 8;
 
 pub const REQUEST_WIDTHS: [usize; REQUEST_FIELDS] = [2, 1, 1, 8, 4, 4, 4, 4];
 
-// The credential that stands at place at; all zeros where it is not all there.
+// The credential at place at; all zeros where it is not all there.
 pub fn credential_in(s: &[u8], at: usize) -> rules::Credential
     ensures { λ r. ⌜ r ≡ credentialIn (now (s .entry)) at ⌝ }
 {
@@ -50,7 +50,7 @@ pub fn credential_in(s: &[u8], at: usize) -> rules::Credential
     }
 }
 
-// The request that stands at place at; all zeros where it is not all there.
+// The request at place at; all zeros where it is not all there.
 pub fn request_in(s: &[u8], at: usize) -> rules::Request
     ensures { λ r. ⌜ r ≡ requestIn (now (s .entry)) at ⌝ }
 {

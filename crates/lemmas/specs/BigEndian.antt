@@ -12,7 +12,7 @@ unfoldable pub numberAt : List ℕ → ℕ → ℕ → ℕ
 numberAt s i zero = 0
 numberAt s i (suc n) = numberAt s i n * 256 + getD s (i + n) 0
 
--- the digit of x that stands for 256 to the k
+-- the digit of x that counts 256 to the k
 unfoldable pub digit : ℕ → ℕ → ℕ
 digit zero x = x % 256
 digit (suc k) x = x / 256 ^ suc k % 256
@@ -28,7 +28,7 @@ unfoldable pub layoutSize : List ℕ → ℕ
 layoutSize [] = 0
 layoutSize (w ∷ ws) = w + layoutSize ws
 
--- the numbers of the fields that stand one after the other from place i on
+-- the numbers of the fields one after the other from place i on
 unfoldable pub readAll : List ℕ → ℕ → List ℕ → List ℕ
 readAll s i [] = []
 readAll s i (w ∷ ws) = numberAt s i w ∷ readAll s (i + w) ws
@@ -76,7 +76,7 @@ bigEndian-last (suc n) x = λ i. digit-div n x i ∷ bigEndian-last n x i
 below-div : (x n : ℕ) → x < 256 ^ suc n → x / 256 < 256 ^ n
 below-div x n h = let e : x < 256 ^ n * 256 = rw (pow-suc 256 n) at h in omega arith
 
--- what is written is read back, at any width, whatever stands before and after it
+-- what is written is read back, at any width, whatever is before and after it
 pub number-of-bytes : (n x : ℕ) (p q : List ℕ) → x < 256 ^ n → numberAt (p ++ (bigEndian n x ++ q)) (length p) n ≡ x
 unfolding numberAt
 number-of-bytes zero x p q h = omega arith

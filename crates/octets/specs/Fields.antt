@@ -10,13 +10,12 @@ use Rattle.lemmas.specs.Tests.{_is_}
 use Rattle.lemmas.specs.Lists.{every, splice}
 use Rattle.lemmas.specs.BigEndian.{layoutSize, readAll, encode, fits-at, power-positive, read-fits}
 
--- fields of those widths, none of more than eight bytes, fit into n bytes
-abbrev pub widthsFit : List ℕ → ℕ → Bool
-widthsFit ws n = every (λ (w : ℕ). leb w 8) ws && leb (layoutSize ws) n
+-- count fields, none of more than eight bytes, lie within len from place i on
+abbrev pub narrow : ℕ → Bool
+narrow w = leb w 8
 
--- they lie within len from place i on, and there are so many
 abbrev pub fieldsFit : ℕ → ℕ → List ℕ → ℕ → Bool
-fieldsFit len i ws count = count is length ws && every (λ (w : ℕ). leb w 8) ws && leb (i + layoutSize ws) len
+fieldsFit len i ws count = count is length ws && every narrow ws && leb (i + layoutSize ws) len
 
 -- their numbers, where they fit; else v
 abbrev pub fieldsRead : List ℕ → ℕ → List ℕ → List ℕ → List ℕ

@@ -1,5 +1,4 @@
-// Fields that stand one after the other in a lent slice, big-endian. The list of their widths is a record's layout: it
-// is read and written by that list.
+// Fields one after the other in a lent slice, big-endian, read and written by the list of their widths: a layout.
 ghost use mathlib.Core.Path.{_≡_};
 ghost use Rattle.octets.specs.Fields.{fieldsFit, fieldsRead, fieldsWritten};
 use crate::places;

@@ -1,5 +1,5 @@
--- Laws of input records that arrive: what makes one broken or whole, and what each answer says. s: the bytes from a
--- record's start on, as far as they have arrived.
+-- Laws of input records that arrive: what makes one broken or whole, and what each answer says. s: the bytes from its
+-- start on, as far as they have arrived.
 use mathlib.Core.Path.{_≡_, refl, sym, ap, _∙_}
 use mathlib.Core.Logic.{_⊎_, inl, inr}
 use mathlib.Core.Bool.{Bool, true, false, not, _&&_, _||_, cond, true≢false}
@@ -10,22 +10,16 @@ use native.Mathlib.Omega.{arith}
 use lib.Dec.{leb, eqb}
 use lib.ListN.{length}
 use borrow.Author.Tests.{lt-ltb, le-ltb, le-leb, ltb-false, eqb-true, not-true, not-false}
-use Rattle.lemmas.specs.Tests.{_over_, _under_, _isnt_, and-r, and-rest-false, or-l, or-r, or-cases, or-intro-l, or-intro-r}
+use Rattle.lemmas.specs.Tests.{_under_, and-r, and-rest-false, or-l, or-r, or-cases, or-intro-l, or-intro-r}
 use Rattle.lemmas.specs.Lists.{part}
 use Rattle.lemmas.specs.BigEndian.{numberAt}
-use Rattle.rules.specs.Program.{recordMagic, recordHead, frameLength, callIn, broken}
+use Rattle.rules.specs.Program.{broken, callIn, clockStart, frameLength, otherMark, overlong, recordHead, recordMagic}
 use Rattle.record.specs.declared.Arrived.the-variants.{Whole, Malformed, Short}
 use Rattle.record.specs.Arrival.{malformed, RecordFacts, factsOf, recordFacts}
 
--- the four tests of a broken record; the middle two make it malformed
+-- the first and the last test of a broken input record
 abbrev noHead : List ℕ → Bool
 noHead s = length s under recordHead
-
-abbrev badMark : List ℕ → Bool
-badMark s = numberAt s 0 2 isnt recordMagic
-
-abbrev tooLong : List ℕ → Bool
-tooLong s = frameLength s over 65_536
 
 abbrev noFrame : List ℕ → Bool
 noFrame s = length s under recordHead + frameLength s
@@ -39,38 +33,38 @@ pub there : (b : Bool) (t : ℕ → Bool) (x : ℕ) → (b && t (cond (not b) 0 
 there true t x = refl
 there false t x = refl
 
--- ---- what makes a record broken
+-- ---- what makes it broken
 pub malformed-broken : (s : List ℕ) → malformed s ≡ true → broken s ≡ true
 unfolding broken
-malformed-broken s h = go (or-cases (leb 2 (length s) && badMark s) (leb recordHead (length s) && tooLong s) h)
+malformed-broken s h = go (or-cases (leb clockStart (length s) && otherMark s) (leb recordHead (length s) && overlong s) h)
   where
-    go : ((leb 2 (length s) && badMark s) ≡ true) ⊎ ((leb recordHead (length s) && tooLong s) ≡ true)
-        → (noHead s || badMark s || tooLong s || noFrame s) ≡ true
+    go : ((leb clockStart (length s) && otherMark s) ≡ true) ⊎ ((leb recordHead (length s) && overlong s) ≡ true)
+        → (noHead s || otherMark s || overlong s || noFrame s) ≡ true
     go (inl e) =
-        or-intro-l (noHead s || badMark s || tooLong s) (noFrame s)
-        (or-intro-l (noHead s || badMark s) (tooLong s)
-        (or-intro-r (noHead s) (badMark s) (and-r (leb 2 (length s)) (badMark s) e)))
+        or-intro-l (noHead s || otherMark s || overlong s) (noFrame s)
+        (or-intro-l (noHead s || otherMark s) (overlong s)
+        (or-intro-r (noHead s) (otherMark s) (and-r (leb clockStart (length s)) (otherMark s) e)))
     go (inr e) =
-        or-intro-l (noHead s || badMark s || tooLong s) (noFrame s)
-        (or-intro-r (noHead s || badMark s) (tooLong s) (and-r (leb recordHead (length s)) (tooLong s) e))
+        or-intro-l (noHead s || otherMark s || overlong s) (noFrame s)
+        (or-intro-r (noHead s || otherMark s) (overlong s) (and-r (leb recordHead (length s)) (overlong s) e))
 
 pub head-short : (s : List ℕ) → length s < recordHead → broken s ≡ true
 unfolding broken
 head-short s h =
-    or-intro-l (noHead s || badMark s || tooLong s) (noFrame s)
-    (or-intro-l (noHead s || badMark s) (tooLong s) (or-intro-l (noHead s) (badMark s) (lt-ltb (length s) recordHead h)))
+    or-intro-l (noHead s || otherMark s || overlong s) (noFrame s)
+    (or-intro-l (noHead s || otherMark s) (overlong s) (or-intro-l (noHead s) (otherMark s) (lt-ltb (length s) recordHead h)))
 
 pub frame-short : (s : List ℕ) → length s < recordHead + frameLength s → broken s ≡ true
 unfolding broken
-frame-short s h = or-intro-r (noHead s || badMark s || tooLong s) (noFrame s) (lt-ltb (length s) (recordHead + frameLength s) h)
+frame-short s h = or-intro-r (noHead s || otherMark s || overlong s) (noFrame s) (lt-ltb (length s) (recordHead + frameLength s) h)
 
 -- and what makes it whole
-pub not-malformed : (s : List ℕ) → malformed s ≡ false → recordHead ≤ length s → (badMark s ≡ false) × (tooLong s ≡ false)
+pub not-malformed : (s : List ℕ) → malformed s ≡ false → recordHead ≤ length s → (otherMark s ≡ false) × (overlong s ≡ false)
 not-malformed s w h = (
-  and-rest-false (leb 2 (length s)) (badMark s) (le-leb 2 (length s) (omega arith))
-      (or-l (leb 2 (length s) && badMark s) (leb recordHead (length s) && tooLong s) w),
-  and-rest-false (leb recordHead (length s)) (tooLong s) (le-leb recordHead (length s) h)
-      (or-r (leb 2 (length s) && badMark s) (leb recordHead (length s) && tooLong s) w),
+  and-rest-false (leb clockStart (length s)) (otherMark s) (le-leb clockStart (length s) (omega arith))
+      (or-l (leb clockStart (length s) && otherMark s) (leb recordHead (length s) && overlong s) w),
+  and-rest-false (leb recordHead (length s)) (overlong s) (le-leb recordHead (length s) h)
+      (or-r (leb clockStart (length s) && otherMark s) (leb recordHead (length s) && overlong s) w),
 )
 
 pub all-there : (s : List ℕ) → malformed s ≡ false → recordHead ≤ length s → recordHead + frameLength s ≤ length s
@@ -93,7 +87,7 @@ unfolding recordFacts
 facts-when-whole s e w = rw (e, w) refl
 
 -- ---- the facts of each answer
--- a whole record: its clock and its frame are document 01's, and the frame lies within the bytes that are there
+-- whole: its clock and its frame are document 01's, and the frame lies within the bytes that are there
 pub record IsWhole (s : List ℕ) (clock size : ℕ) : Type 0 where
   pub whole : broken s ≡ false
   pub mark : numberAt s 0 2 ≡ recordMagic
@@ -108,14 +102,14 @@ unfolding broken
 whole-facts s e = record {
   whole = e;
   mark = eqb-true (numberAt s 0 2) recordMagic (not-false (eqb (numberAt s 0 2) recordMagic)
-      (or-r (noHead s) (badMark s)
-      (or-l (noHead s || badMark s) (tooLong s) (or-l (noHead s || badMark s || tooLong s) (noFrame s) e))));
+      (or-r (noHead s) (otherMark s)
+      (or-l (noHead s || otherMark s) (overlong s) (or-l (noHead s || otherMark s || overlong s) (noFrame s) e))));
   reading = refl;
   counted = refl;
   frame = refl;
   most = ltb-false 65_536 (frameLength s)
-      (or-r (noHead s || badMark s) (tooLong s) (or-l (noHead s || badMark s || tooLong s) (noFrame s) e));
-  fits = ltb-false (length s) (recordHead + frameLength s) (or-r (noHead s || badMark s || tooLong s) (noFrame s) e);
+      (or-r (noHead s || otherMark s) (overlong s) (or-l (noHead s || otherMark s || overlong s) (noFrame s) e));
+  fits = ltb-false (length s) (recordHead + frameLength s) (or-r (noHead s || otherMark s || overlong s) (noFrame s) e);
 }
 
 pub facts-of-whole : (s : List ℕ) (clock size : ℕ) → factsOf (Whole clock size) ≡ recordFacts s → IsWhole s clock size
@@ -130,7 +124,7 @@ pub facts-of-malformed : (s : List ℕ) → factsOf Malformed ≡ recordFacts s 
 unfolding recordFacts
 facts-of-malformed s e = sym (ap RecordFacts.malformed e)
 
--- a record of which more must be read is shorter than the longest record
+-- one of which more must be read is shorter than the longest
 pub facts-of-short : (s : List ℕ) → factsOf Short ≡ recordFacts s
     → (broken s ≡ true) × (malformed s ≡ false) × (length s < recordHead + 65_536)
 unfolding recordFacts

@@ -1,26 +1,40 @@
--- What is known of an input record stays true when more arrives, so what the program prints is known record by record.
+-- What is known of an input record stays true when more arrives, so what the program prints is known for each in turn.
 -- p: the bytes that have arrived; q: those that come later; s: drive and medium; n: the calls so far.
-use mathlib.Core.Path.{_≡_, refl, sym, ap, _∙_}
+use mathlib.Core.Path.{_≡_, refl, ap, _∙_}
 use mathlib.Core.Logic.{_⊎_, inl, inr}
-use mathlib.Core.Bool.{Bool, true, false, _&&_, _||_}
-use mathlib.Core.List.{List, [], _++_}
+use mathlib.Core.Bool.{Bool, true, false, _&&_, false≢true}
+use mathlib.Core.List.{List, [], _∷_, _++_}
 use Prim.Native.Nat.{ℕ, suc, _+_, _≤_, _<_}
 use native.Mathlib.Omega.{arith}
 use lib.Dec.{leb}
-use lib.ListN.{length, take, drop, length-append, length-drop}
+use lib.ListN.{length, drop, length-append, length-drop}
 use lib.Seq.{take-append-le, drop-append-le}
 use borrow.Author.Tests.{le-ltb, le-leb, leb-true, ne-eqb}
-use Rattle.lemmas.specs.Tests.{_over_, _is_, _isnt_, and-l, and-r, both, or-cases, or-intro-l, or-intro-r}
+use Rattle.lemmas.specs.Tests.{_is_, _isnt_, and-l, and-r, both, or-cases, or-intro-r}
 use Rattle.lemmas.specs.Lists.{part}
 use Rattle.lemmas.specs.BigEndian.{numberAt, number-left}
 use Rattle.rules.specs.Demands.{State, answer, step}
-use Rattle.rules.specs.Program.{recordMagic, recordHead, frameLength, callIn, broken, printed, ended, cut, prints}
+use Rattle.rules.specs.Program.{
+  broken,
+  callIn,
+  clockStart,
+  cut,
+  ended,
+  frameLength,
+  lengthStart,
+  otherMark,
+  overlong,
+  printed,
+  prints,
+  recordHead,
+  recordMagic,
+}
 use Rattle.record.specs.Arrival.{malformed}
 use Rattle.record.specs.ArrivalLaws.{whole-facts, malformed-broken, neither}
 
--- ---- a whole record stays one, and stays the same call
+-- ---- a whole one stays whole, and stays the same call
 pub length-stays : (p q : List ℕ) → recordHead ≤ length p → frameLength (p ++ q) ≡ frameLength p
-length-stays p q h = number-left p q 10 4 h
+length-stays p q h = number-left p q lengthStart 4 h
 
 pub part-stays : (p q : List ℕ) (i n : ℕ) → i + n ≤ length p → part (p ++ q) i n ≡ part p i n
 unfolding part
@@ -33,51 +47,32 @@ call-stays p q e =
     rw (
       length-stays p q (omega (arith, w .fits)),
       part-stays p q recordHead (frameLength p) (w .fits),
-      number-left p q 2 8 (omega (arith, w .fits)),
+      number-left p q clockStart 8 (omega (arith, w .fits)),
     )
 
--- the mark and the length are those of the bytes that were there
-malformed-tests : (p q : List ℕ) → malformed p ≡ true → malformed (p ++ q) ≡ true
-malformed-tests p q h = go (or-cases (leb 2 (length p) && numberAt p 0 2 isnt recordMagic)
-    (leb recordHead (length p) && frameLength p over 65_536) h)
-  where
-    longer : (k : ℕ) → leb k (length p) ≡ true → leb k (length (p ++ q)) ≡ true
-    longer k e = le-leb k (length (p ++ q)) (omega (arith, leb-true k (length p) e, length-append p q))
+-- a test of bytes that were there has the same answer
+stays : (p q : List ℕ) (k : ℕ) (t : List ℕ → Bool) → (k ≤ length p → t (p ++ q) ≡ t p)
+    → (leb k (length p) && t p) ≡ true → (leb k (length (p ++ q)) && t (p ++ q)) ≡ true
+stays p q k t same e =
+    let h : k ≤ length p = leb-true k (length p) (and-l (leb k (length p)) (t p) e) in
+    both (le-leb k (length (p ++ q)) (omega (arith, length-append p q)))
+    (same h ∙ and-r (leb k (length p)) (t p) e)
 
-    go : ((leb 2 (length p) && numberAt p 0 2 isnt recordMagic) ≡ true)
-        ⊎ ((leb recordHead (length p) && frameLength p over 65_536) ≡ true)
+malformed-tests : (p q : List ℕ) → malformed p ≡ true → malformed (p ++ q) ≡ true
+malformed-tests p q h = go (or-cases (leb clockStart (length p) && otherMark p) (leb recordHead (length p) && overlong p) h)
+  where
+    go : ((leb clockStart (length p) && otherMark p) ≡ true) ⊎ ((leb recordHead (length p) && overlong p) ≡ true)
         → malformed (p ++ q) ≡ true
-    go (inl e) =
-        let t = and-l (leb 2 (length p)) (numberAt p 0 2 isnt recordMagic) e in
-        let m : (numberAt (p ++ q) 0 2 isnt recordMagic) ≡ true =
-        rw (number-left p q 0 2 (leb-true 2 (length p) t)) (and-r (leb 2 (length p)) (numberAt p 0 2 isnt recordMagic) e) in
-        or-intro-l (leb 2 (length (p ++ q)) && numberAt (p ++ q) 0 2 isnt recordMagic)
-        (leb recordHead (length (p ++ q)) && frameLength (p ++ q) over 65_536)
-        (both (longer 2 t) m)
+    go (inl e) = rw (stays p q clockStart otherMark (λ h. rw (number-left p q 0 clockStart h)) e)
     go (inr e) =
-        let t = and-l (leb recordHead (length p)) (frameLength p over 65_536) e in
-        let m : (frameLength (p ++ q) over 65_536) ≡ true =
-        rw (length-stays p q (leb-true recordHead (length p) t))
-        (and-r (leb recordHead (length p)) (frameLength p over 65_536) e) in
-        or-intro-r (leb 2 (length (p ++ q)) && numberAt (p ++ q) 0 2 isnt recordMagic)
-        (leb recordHead (length (p ++ q)) && frameLength (p ++ q) over 65_536)
-        (both (longer recordHead t) m)
+        or-intro-r (leb clockStart (length (p ++ q)) && otherMark (p ++ q)) (leb recordHead (length (p ++ q)) && overlong (p ++ q))
+        (stays p q recordHead overlong (λ h. rw (length-stays p q h)) e)
 
 malformed-some : (p : List ℕ) → malformed p ≡ true → 0 < length p
-malformed-some p h = go (or-cases (leb 2 (length p) && numberAt p 0 2 isnt recordMagic)
-    (leb recordHead (length p) && frameLength p over 65_536) h)
-  where
-    go : ((leb 2 (length p) && numberAt p 0 2 isnt recordMagic) ≡ true)
-        ⊎ ((leb recordHead (length p) && frameLength p over 65_536) ≡ true)
-        → 0 < length p
-    go (inl e) = omega (arith, leb-true 2 (length p) (and-l (leb 2 (length p)) (numberAt p 0 2 isnt recordMagic) e))
-    go (inr e) = omega (
-      arith,
-      leb-true recordHead (length p)
-          (and-l (leb recordHead (length p)) (frameLength p over 65_536) e),
-    )
+malformed-some [] h = absurd (false≢true h)
+malformed-some (x ∷ p) h = omega arith
 
--- what is no record stays none
+-- what is none stays none
 pub malformed-stays : (p q : List ℕ) → malformed p ≡ true → broken (p ++ q) ≡ true
 malformed-stays p q h = malformed-broken (p ++ q) (malformed-tests p q h)
 
@@ -99,7 +94,7 @@ whole-stays p q e =
 some : (p q : List ℕ) → 0 < length p → (length (p ++ q) is 0) ≡ false
 some p q h = ne-eqb (length (p ++ q)) 0 (λ e. absurd (omega (arith, h, e, length-append p q)))
 
--- of a whole record: its line, and then what it prints of the rest
+-- of a whole one: its line, and then what it prints of the rest
 pub prints-call : (k n : ℕ) (s : State) (p q : List ℕ) → broken p ≡ false
     → prints (suc k) s n (p ++ q)
     ≡ printed (n + 1) (answer s (callIn p) .row) (answer s (callIn p) .length)
@@ -112,7 +107,7 @@ prints-call k n s p q e =
     rw (there, whole-stays p q e, prints)
     (rw (call-stays p q e, size, drop-append-le (recordHead + frameLength p) p q (w .fits)) refl)
 
--- of what is no record, and of one that the input's end cuts off: `cut`
+-- of what is none, and of one that the input's end cuts off: `cut`
 pub prints-malformed : (k n : ℕ) (s : State) (p q : List ℕ) → malformed p ≡ true → prints (suc k) s n (p ++ q) ≡ cut n
 unfolding prints
 prints-malformed k n s p q h = rw (some p q (malformed-some p h), malformed-stays p q h, prints) refl

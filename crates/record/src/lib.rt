@@ -1,28 +1,34 @@
-// An input record: one record of the program's standard input (document 01: mark 4C 49, clock, frame length, frame).
+// One input record of the program (document 01: mark 4C 49, clock, frame length, frame).
 ghost use mathlib.Core.Path.{_≡_};
 ghost use Rattle.record.specs.Arrival.{malformed, factsOf, recordFacts};
 
-// The bytes before the frame: the two of the mark, eight of the clock, four of the frame's length.
-pub const HEAD_SIZE: usize = 14;
-
 const MAGIC: u64 = 0x4c49;
+
+// Where the clock, the frame's length and the frame start: a mark of two bytes, a clock of eight, a length of four.
+const CLOCK_START: usize = 2;
+
+const LENGTH_START: usize = CLOCK_START + 8;
+
+pub const HEAD_SIZE: usize = LENGTH_START + 4;
+
+const MOST_FRAME: u64 = 65536;
 
 // What is known of an input record from those of its bytes that have arrived.
 pub enum Arrived {
-    // All of it is there: the frame is the size bytes after the head. Bytes of later records may follow.
+    // All of it: the frame is the size bytes after the head. Bytes of later input records may follow.
     Whole { clock: u64, size: usize },
-    // Whatever comes, it is no record: another mark, or a length over 65,536.
+    // It is none, whatever comes: another mark, or too long a frame.
     Malformed,
-    // More of it must be read. Where the input has ended, the record is cut off, or there is none.
+    // More of it must be read. Where the input has ended, it is cut off, or there is none.
     Short,
 }
 
-// Whether the bytes that have arrived already show that this is no record.
+// Whether this is no input record, by the bytes that are there already.
 pub fn is_malformed(input: &[u8]) -> bool
     ensures { λ r. ⌜ r ≡ malformed (now (input .entry)) ⌝ }
 {
-    ((input.len() >= 2) & (octets::number(input, 0, 2) != MAGIC))
-        | ((input.len() >= HEAD_SIZE) & (octets::number(input, 10, 4) > 65536))
+    ((input.len() >= CLOCK_START) & (octets::number(input, 0, CLOCK_START) != MAGIC))
+        | ((input.len() >= HEAD_SIZE) & (octets::number(input, LENGTH_START, 4) > MOST_FRAME))
 }
 
 // The input record that starts where input does.
@@ -35,11 +41,11 @@ pub fn arrival(input: &[u8]) -> Arrived
     if input.len() < HEAD_SIZE {
         return Arrived::Short;
     }
-    let size = octets::number(input, 10, 4);
+    let size = octets::number(input, LENGTH_START, 4);
     if ((input.len() - HEAD_SIZE) as u64) < size {
         return Arrived::Short;
     }
-    let clock = octets::number(input, 2, 8);
+    let clock = octets::number(input, CLOCK_START, 8);
     Arrived::Whole {
         clock,
         size: size as usize,

@@ -1,26 +1,26 @@
--- Laws of the reply check's definitions, for the proofs of its code: rows 26 and 28, the two halves of row 30, the result.
+-- Laws of the reply check's definitions, for the proofs of its code: rows 26 and 28, row 30, the result.
+-- a, b: credential and request. k: the credential key. s: the reply.
 use mathlib.Core.Path.{_∙_, _≡_, ap, refl, subst, sym}
 use mathlib.Core.Bool.{_&&_, _||_, Bool, cond, false, not, or-false, true}
 use mathlib.Core.List.{[], List}
 use Prim.Native.Nat.{_+_, _≤_, ℕ}
 use native.Mathlib.Omega.{arith}
 use lib.ListN.{take, length}
-use borrow.Author.Tests.{eq-eqb, eqb-true, ltb-false, ne-eqb, not-false}
+use borrow.Author.Tests.{eq-eqb, eqb-true, ne-eqb, not-false}
 use Rattle.lemmas.specs.Lists.{every, part, same}
 use Rattle.lemmas.specs.Parts.{length-part}
 use Rattle.lemmas.specs.RowTable.{applies, firstRow, none-applies}
 use Rattle.lemmas.specs.Tests.{_is_, _isnt_, _over_, or-intro-r, or-l, or-r}
-use Rattle.digest.specs.Hmac.{hmac}
 use Rattle.rules.specs.declared.Request.{Request}
 use Rattle.rules.specs.Client.{badRecords, check, checkRows, mostResult, row30}
 use Rattle.rules.specs.Frame.{digestSize, keySize, requestAt}
-use Rattle.rules.specs.Operations.{head, headSize, replyCovered, replyLength, resultLength}
+use Rattle.rules.specs.Operations.{head, headSize, replyLength, resultLength}
 use Rattle.fields.specs.Records.{requestIn}
 use Rattle.reply_check.specs.Met.{CheckMet}
-use Rattle.reply_check.specs.Shape.{wrongShape}
+use Rattle.reply_check.specs.Shape.{wrongDigest, wrongReply, wrongShape}
 use Rattle.record_rows.specs.BadRecords.{bad-either, request-is-read}
 
--- ---- the reply check: rows 26 and 28 first, then row 30 in two halves
+-- ---- rows 26 and 28 first, then row 30
 -- rows 26 and 28, of a request read as r
 abbrev pub earlyRow : List ℕ → List ℕ → ℕ → Request → ℕ
 earlyRow a b k r = cond (k isnt keySize) 26 (cond (badRecords a b || resultLength r over mostResult) 28 0)
@@ -34,10 +34,6 @@ early-clear : (t u : Bool) → _≡_ {A = ℕ} (cond t 26 (cond u 28 0)) 0 → (
 early-clear true u e = absurd (let z : ⊥ = omega arith in z)
 early-clear false true e = absurd (let z : ⊥ = omega arith in z)
 early-clear false false e = (refl, refl)
-
--- a level 2 reply's digest is another
-abbrev pub wrongDigest : List ℕ → List ℕ → List ℕ → List ℕ → ℕ → Bool
-wrongDigest a b k s n = not (same (part s n digestSize) (hmac k (replyCovered a b (take n s))))
 
 module _ (a b k s : List ℕ) where
   either-row : (badRecords a b || resultLength (requestIn b 0) over mostResult) ≡ (badRecords a b || resultLength (requestAt b 0) over mostResult)
@@ -56,27 +52,14 @@ module _ (a b k s : List ℕ) where
     read-whole : requestIn b 0 ≡ requestAt b 0
     read-whole = request-is-read a b (or-l (badRecords a b) (resultLength (requestIn b 0) over mostResult) clear28)
 
-    pub short-result : resultLength (requestIn b 0) ≤ mostResult
-    short-result = ltb-false mostResult (resultLength (requestIn b 0)) (or-r (badRecords a b) (resultLength (requestIn b 0) over mostResult) clear28)
-
     late : firstRow (checkRows a b k s) ≡ cond (row30 a b k s) 30 0
     unfolding checkRows firstRow
     late = rw (early-clear (length k isnt keySize) (badRecords a b || resultLength (requestIn b 0) over mostResult) z .0, sym either-row ∙ clear28) refl
 
-    -- row 30 of the request as it was read
-    halves : row30 a b k s ≡ (wrongShape s (requestIn b 0) || (requestIn b 0 .level is 2 && wrongDigest a b k s (headSize + resultLength (requestIn b 0))))
-    unfolding row30 wrongShape
-    halves = ap (λ (r : Request). wrongShape s r || (r .level is 2 && wrongDigest a b k s (headSize + resultLength r))) (sym read-whole)
-
-    pub check-shape : wrongShape s (requestIn b 0) ≡ true → 30 ≡ firstRow (checkRows a b k s)
-    check-shape h = sym (late ∙ rw (halves, h) refl)
-
-    pub check-plain : wrongShape s (requestIn b 0) ≡ false → (requestIn b 0 .level ≡ 2 → ⊥) → 0 ≡ firstRow (checkRows a b k s)
-    check-plain h l = sym (late ∙ rw (halves, h, ne-eqb (requestIn b 0 .level) 2 l) refl)
-
-    pub check-sealed : wrongShape s (requestIn b 0) ≡ false → requestIn b 0 .level ≡ 2
-        → cond (wrongDigest a b k s (headSize + resultLength (requestIn b 0))) 30 0 ≡ firstRow (checkRows a b k s)
-    check-sealed h l = sym (late ∙ rw (halves, h, eq-eqb (requestIn b 0 .level) 2 l) refl)
+    -- row 30, of the request as it was read
+    pub check-late : cond (wrongReply a b k s (requestIn b 0)) 30 0 ≡ firstRow (checkRows a b k s)
+    unfolding row30 wrongReply wrongShape
+    check-late = ap (λ (r : Request). cond (wrongReply a b k s r) 30 0) read-whole ∙ sym late
 
 pub shape-length : (s : List ℕ) (r : Request) → wrongShape s r ≡ false → length s ≡ replyLength r
 unfolding wrongShape
@@ -117,8 +100,8 @@ module _ (a b k s : List ℕ) (z : firstRow (checkRows a b k s) ≡ 0) where
   no-late : wrongShape s (requestAt b 0) ≡ false
   unfolding checkRows applies row30 wrongShape
   no-late =
-      or-l (wrongShape s (requestAt b 0))
-      (requestAt b 0 .level is 2 && wrongDigest a b k s (headSize + resultLength (requestAt b 0))) (check-applies 30)
+      let r : Request = requestAt b 0 in
+      or-l (wrongShape s r) (r .level is 2 && wrongDigest a b k s (headSize + resultLength r)) (check-applies 30)
 
   pub check-end : headSize + resultLength (requestIn b 0) ≤ length s
   unfolding replyLength

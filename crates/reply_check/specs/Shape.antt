@@ -1,13 +1,23 @@
--- Document 01, row 30, as the code judges it: the shape of a reply first, then its digest.
-use mathlib.Core.Bool.{_||_, Bool, not}
+-- Document 01, row 30, as the code judges it: a reply's head and length first, then at level 2 its digest.
+-- a, b: credential and request. k: the credential key. s: the reply. r: the request's numbers.
+use mathlib.Core.Bool.{_&&_, _||_, Bool, not}
 use mathlib.Core.List.{List}
-use Prim.Native.Nat.{ℕ}
+use Prim.Native.Nat.{ℕ, _+_}
 use lib.ListN.{length, take}
-use Rattle.lemmas.specs.Lists.{same}
-use Rattle.lemmas.specs.Tests.{_isnt_}
+use Rattle.lemmas.specs.Lists.{part, same}
+use Rattle.lemmas.specs.Tests.{_is_, _isnt_}
+use Rattle.digest.specs.Hmac.{hmac}
 use Rattle.rules.specs.declared.Request.{Request}
-use Rattle.rules.specs.Operations.{head, headSize, replyLength, resultLength}
+use Rattle.rules.specs.Frame.{digestSize}
+use Rattle.rules.specs.Operations.{head, headSize, replyCovered, replyLength, resultLength}
 
--- row 30, but for its digest: the reply is not the head and the length that the request calls for
+-- the reply is not the head and the length that the request calls for
 unfoldable pub wrongShape : List ℕ → Request → Bool
-wrongShape reply r = not (same (take headSize reply) (head r (resultLength r))) || length reply isnt replyLength r
+wrongShape s r = not (same (take headSize s) (head r (resultLength r))) || length s isnt replyLength r
+
+-- the digest behind its first n bytes is another
+abbrev pub wrongDigest : List ℕ → List ℕ → List ℕ → List ℕ → ℕ → Bool
+wrongDigest a b k s n = not (same (part s n digestSize) (hmac k (replyCovered a b (take n s))))
+
+unfoldable pub wrongReply : List ℕ → List ℕ → List ℕ → List ℕ → Request → Bool
+wrongReply a b k s r = wrongShape s r || (r .level is 2 && wrongDigest a b k s (headSize + resultLength r))

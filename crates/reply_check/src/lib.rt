@@ -1,15 +1,12 @@
 // The client end of document 01: the check of a reply, rows 26, 28 and 30.
 ghost use mathlib.Core.Path.{_≡_};
-ghost use mathlib.Core.Bool.{not};
 ghost use Prim.Native.Nat.{_+_};
-ghost use lib.ListN.{length, take};
-ghost use Rattle.lemmas.specs.Lists.{part, same};
+ghost use lib.ListN.{length};
+ghost use Rattle.lemmas.specs.Lists.{same};
 ghost use Rattle.lemmas.specs.RowTable.{firstRow};
-ghost use Rattle.digest.specs.Hmac.{hmac};
 ghost use Rattle.rules.specs.Frame.{digestSize};
-ghost use Rattle.rules.specs.Operations.{replyCovered};
 ghost use Rattle.rules.specs.Client.{checkRows};
-ghost use Rattle.reply_check.specs.Shape.{wrongShape};
+ghost use Rattle.reply_check.specs.Shape.{wrongDigest, wrongReply, wrongShape};
 ghost use Rattle.reply_check.specs.Met.{CheckMet};
 use digest::mac;
 use lemmas::pick;
@@ -33,10 +30,30 @@ fn wrong_shape(reply: &[u8], r: rules::Request) -> bool
 // Whether a reply's digest, after n bytes of head and result, is another than the one under the credential key.
 fn wrong_digest(credential: &[u8], request: &[u8], key: &[u8], reply: &[u8], n: usize) -> bool
     requires { ⌜ length (now reply) ≡ n + digestSize ⌝ }
-    ensures { λ b. ⌜ b ≡ not (same (part (now (reply .entry)) n digestSize) (hmac (now (key .entry)) (replyCovered (now (credential .entry)) (now (request .entry)) (take n (now (reply .entry)))))) ⌝ }
+    ensures { λ b. ⌜ b ≡ wrongDigest (now (credential .entry)) (now (request .entry)) (now (key .entry)) (now (reply .entry)) n ⌝ }
 {
     let right = mac::of3(key, credential, request, &reply[..n]);
     !octets::same(&reply[n..], &right)
+}
+
+// Row 30: whether a reply is another than the request r calls for, by its head, its length or its digest.
+fn wrong_reply(
+    credential: &[u8],
+    request: &[u8],
+    key: &[u8],
+    reply: &[u8],
+    r: rules::Request,
+) -> bool
+    ensures { λ b. ⌜ b ≡ wrongReply (now (credential .entry)) (now (request .entry)) (now (key .entry)) (now (reply .entry)) r ⌝ }
+{
+    if wrong_shape(reply, r) {
+        return true;
+    }
+    if r.level != 2 {
+        return false;
+    }
+    let n = HEAD_SIZE + reply::result_length(r) as usize;
+    wrong_digest(credential, request, key, reply, n)
 }
 
 // The reply check's row.
@@ -44,9 +61,8 @@ fn check_row(credential: &[u8], request: &[u8], key: &[u8], reply: &[u8]) -> u32
     ensures { λ row. ⌜ row ≡ firstRow (checkRows (now (credential .entry)) (now (request .entry)) (now (key .entry)) (now (reply .entry))) ⌝ }
 {
     let r = fields::request_in(request, 0);
-    let n = reply::result_length(r);
     let row = pick(
-        record_rows::bad_records(credential, request) | (n > MOST_RESULT),
+        record_rows::bad_records(credential, request) | (reply::result_length(r) > MOST_RESULT),
         28,
         0,
     );
@@ -54,17 +70,7 @@ fn check_row(credential: &[u8], request: &[u8], key: &[u8], reply: &[u8]) -> u32
     if row != 0 {
         return row;
     }
-    if wrong_shape(reply, r) {
-        return 30;
-    }
-    if r.level != 2 {
-        return 0;
-    }
-    pick(
-        wrong_digest(credential, request, key, reply, HEAD_SIZE + n as usize),
-        30,
-        0,
-    )
+    pick(wrong_reply(credential, request, key, reply, r), 30, 0)
 }
 
 // The result, as the part of `reply` after its head, and row 0; or an empty part and the row.

@@ -62,7 +62,7 @@ credentialOf v = record {
   holder = getD v 11 0;
 }
 
--- the one that stands at place i of s, and its bytes
+-- the one at place i of s, and its bytes
 unfoldable pub credentialAt : List ℕ → ℕ → Credential
 credentialAt s i = credentialOf (readAll s i credentialWidths)
 

@@ -1,4 +1,4 @@
--- Document 01, the program `gate`: the records of its input, and what it prints.
+-- Document 01, the program `gate`: its input records, and what it prints.
 use mathlib.Core.Bool.{Bool, true, false, _||_}
 use mathlib.Core.List.{List, [], _∷_, _++_}
 use Prim.Native.Nat.{ℕ, zero, suc, _+_, _/_, _%_}
@@ -16,29 +16,42 @@ formatted =
     let f = format (replicate 65_536 0) 1 (replicate 32 0) (replicate 32 1) in
     record { drive = f .drive; medium = f .medium }
 
--- ---- a record: "mark 4C 49, clock (8 bytes), frame length (4), frame"
+-- ---- an input record: "mark 4C 49, clock (8 bytes), frame length (4), frame"
 abbrev pub recordMagic : ℕ
 recordMagic = 0x4c49
 
+-- where the clock, the frame length and the frame start in it
+abbrev pub clockStart : ℕ
+clockStart = 2
+
+abbrev pub lengthStart : ℕ
+lengthStart = clockStart + 8
+
 abbrev pub recordHead : ℕ
-recordHead = 14
+recordHead = lengthStart + 4
 
 abbrev pub frameLength : List ℕ → ℕ
-frameLength input = numberAt input 10 4
+frameLength input = numberAt input lengthStart 4
 
 abbrev pub callIn : List ℕ → Call
 callIn input = record {
   frame = part input recordHead (frameLength input);
-  clock = numberAt input 2 8;
+  clock = numberAt input clockStart 8;
   space = replicate 65_536 0;
 }
 
 -- "a record with another mark or without all its bytes, or a length over 65,536"
+abbrev pub otherMark : List ℕ → Bool
+otherMark input = numberAt input 0 2 isnt recordMagic
+
+abbrev pub overlong : List ℕ → Bool
+overlong input = frameLength input over 65_536
+
 unfoldable pub broken : List ℕ → Bool
 broken input =
     length input under recordHead
-    || numberAt input 0 2 isnt recordMagic
-    || frameLength input over 65_536
+    || otherMark input
+    || overlong input
     || length input under recordHead + frameLength input
 
 -- ---- what is printed: numbers in decimal, of at most twenty digits
@@ -60,7 +73,7 @@ ended n = 101 ∷ 110 ∷ 100 ∷ 32 ∷ (decimal n ++ (10 ∷ []))
 abbrev pub cut : ℕ → List ℕ
 cut n = 99 ∷ 117 ∷ 116 ∷ 32 ∷ (decimal n ++ (10 ∷ []))
 
--- what is printed after n calls, of the input that is left; no more than k records
+-- what is printed after n calls, of the input that is left; no more than k input records
 unfoldable pub prints : ℕ → State → ℕ → List ℕ → List ℕ
 prints zero s n input = []
 prints (suc k) s n input =

@@ -18,22 +18,7 @@ use Rattle.rules.specs.declared.Operation.{Operation}
 use Rattle.wire.specs.declared.ParsedRequest.{ParsedRequest}
 use Rattle.wire.specs.declared.Parsed.{Parsed}
 use Rattle.wire.specs.declared.Parsed.the-variants.{Fields, Refused}
-use Rattle.wire.specs.Parse.{
-  operationNumber,
-  firstNumber,
-  secondNumber,
-  numbersOf,
-  ParseAnswer,
-  refusedBy,
-  fieldsOf,
-  answerOf,
-  answerRow,
-  answerBy,
-  frameRow,
-  frameAnswer,
-  recordsAnswer,
-  ArgumentsKept,
-}
+use Rattle.wire.specs.Parse.{operationNumber, firstNumber, secondNumber, numbersOf, refusedBy, fieldsOf, answerOf, answerRow, answerBy, frameRow, frameAnswer, recordsAnswer, ArgumentsKept}
 
 -- ---- for a caller
 -- fields: no row from 2 to 7 applies, and they are the frame's

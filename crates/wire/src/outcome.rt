@@ -52,7 +52,7 @@ fn fields_or_row(c: rules::Credential, r: rules::Request, len: usize) -> Parsed
     )
 }
 
-// The same of the credential c and of the request that stands at place at of the frame s.
+// The same of the credential c and of the request at place at of the frame s.
 pub fn request_at(s: &[u8], at: usize, c: rules::Credential) -> Parsed
     requires { ⌜ at + requestSize ≤ length (now s) ⌝ }
     ensures { λ p. ⌜ answerOf p ≡ recordsAnswer c (requestAt (now (s .entry)) at) (length (now (s .entry))) ⌝ }

@@ -1,7 +1,5 @@
 -- A refusal by `build-refused`; a grant joins credential, request, data and digest: `build-granted`.
 use mathlib.Core.Path.{_≡_, refl, sym, ap, _∙_}
-use mathlib.Core.List.{List}
-use Prim.Native.Nat.{ℕ}
 use lib.ListN.{length}
 use borrow.Author.Needs.{needs}
 use Rattle.digest.specs.Hmac.{hmac}

@@ -1,14 +1,14 @@
 -- The four answers, each by what was tested before it.
 use mathlib.Core.Path.{_≡_, sym, _∙_}
-use mathlib.Core.Bool.{Bool, true, false, not}
+use mathlib.Core.Bool.{true, false}
 use mathlib.Core.List.{List}
-use Prim.Native.Nat.{ℕ, _+_, _-_, _≤_, _<_}
+use Prim.Native.Nat.{ℕ, _-_, _≤_}
 use native.Mathlib.Omega.{arith}
 use lib.ListN.{length}
 use borrow.Author.Needs.{needs}
 use borrow.Author.Tests.{le-leb}
 use Rattle.lemmas.specs.BigEndian.{numberAt}
-use Rattle.rules.specs.Program.{frameLength}
+use Rattle.rules.specs.Program.{clockStart, frameLength, lengthStart, recordHead}
 use Rattle.record.specs.ArrivalLaws.{malformed-broken, head-short, frame-short, all-there, facts-when-broken, facts-when-whole}
 use Rattle.record.proofs.arrival.Statement.{statement}
 use Rattle.record.proofs.arrival.Tie as tie
@@ -17,7 +17,7 @@ use Rattle.record.proofs.arrival.Tie as tie
 size : (c : tie.After-number) → c .number .result ≡ frameLength (c .before .before .before .before .before .args .input .now)
 size c =
     let s : List ℕ = c .before .before .before .before .before .args .input .now in
-    c .number .ensures .0 ∙ (rw (le-leb 14 (length s) (c .before .if2 .left)))
+    c .number .ensures .0 ∙ (rw (le-leb recordHead (length s) (c .before .if2 .left)))
 
 returns : tie.Need-returns
 returns c =
@@ -42,9 +42,9 @@ returns-4 c =
     let s : List ℕ = c .before .before .before .before .before .before .before .args .input .now in
     let n = c .before .before in
     let w = sym (n .before .before .before .is-malformed .ensures) ∙ n .before .before .if1 .left in
-    let head : 14 ≤ length s = n .before .if2 .left in
-    let clock : c .number2 .result ≡ numberAt s 2 8 =
-    c .number2 .ensures .0 ∙ (rw (le-leb 10 (length s) (omega (arith, head)))) in
+    let head : recordHead ≤ length s = n .before .if2 .left in
+    let clock : c .number2 .result ≡ numberAt s clockStart 8 =
+    c .number2 .ensures .0 ∙ (rw (le-leb lengthStart (length s) (omega (arith, head)))) in
     rw (clock, size n)
     (sym (facts-when-whole s (all-there s w head (omega (arith, size n, head))) w))
 

@@ -1,4 +1,4 @@
--- The eight bytes as they stand.
+-- Byte by byte.
 use mathlib.Core.Path.{refl}
 use borrow.Author.Needs.{needs}
 use Rattle.lemmas.specs.BigEndian.{bigEndian, digit}

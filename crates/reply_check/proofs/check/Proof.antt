@@ -1,16 +1,13 @@
 -- Row 0 and the part after the head by `check-granted`, its end inside the reply by `check-end`; or the row and nothing by `check-refused`.
-use mathlib.Core.Path.{_≡_, refl, sym, ap, _∙_, subst}
-use mathlib.Core.List.{List}
-use Prim.Native.Nat.{ℕ, _+_, _-_, _≤_}
+use mathlib.Core.Path.{_≡_, sym, ap, _∙_}
+use Prim.Native.Nat.{_+_, _-_}
 use native.Mathlib.Omega.{arith}
-use lib.ListN.{length, take, drop}
 use borrow.Author.Needs.{needs}
 use Rattle.lemmas.specs.Lists.{part}
 use Rattle.lemmas.specs.RowTable.{firstRow}
 use Rattle.rules.specs.Client.{checkRows}
 use Rattle.rules.specs.Operations.{headSize, resultLength}
 use Rattle.fields.specs.Records.{requestIn}
-use Rattle.reply_check.specs.Met.{CheckMet}
 use Rattle.reply_check.specs.CheckLaws.{check-end, check-granted, check-refused}
 use Rattle.reply_check.proofs.check.Statement.{statement}
 use Rattle.reply_check.proofs.check.Tie as tie

@@ -1,4 +1,4 @@
--- Another length is wrong whatever the head is (`shape-other`); of the right length, the head tells (`shape-same`).
+-- Another length is wrong whatever the head is (`shape-other`); of the right length, the head decides (`shape-same`).
 use mathlib.Core.Path.{_≡_, sym, _∙_}
 use Prim.Native.Nat.{_≤_}
 use lib.ListN.{length}

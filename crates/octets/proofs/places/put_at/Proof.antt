@@ -1,4 +1,4 @@
--- `octets::places::put_at` meets its contract. The loop's invariant: from place i on the bytes stand, and those before are those of what is left of x.
+-- `octets::places::put_at` meets its contract. The loop's invariant: from place i on the bytes are written, and those before it are the bytes of what is left of x.
 use Prim.Native.Nat.{ℕ, suc, _+_, _-_, _%_, _≤_, _<_}
 use mathlib.Core.Path.{_≡_, refl, sym}
 use mathlib.Core.List.{List, [], _∷_, _++_, append-assoc}
@@ -19,7 +19,7 @@ Inv-loop s₀ at n x i₀ rest₀ s i rest =
 abbrev μ-loop : tie.MeasureT-loop
 μ-loop s₀ at n x i₀ rest₀ s i rest = i
 
--- one byte more, at j, before the bytes that stand
+-- one byte more, at j, before those that are written
 stored : (s s₀ b : List ℕ) (at n j y : ℕ) → at + n ≤ length s₀ → j < n → length b ≡ n → getD b j 0 ≡ y
     → s ≡ take (at + suc j) s₀ ++ (drop (suc j) b ++ drop (at + n) s₀) → set s (at + j) y ≡ take (at + j) s₀ ++ (drop j b ++ drop (at + n) s₀)
 stored s s₀ b at n j y fits below size is e =

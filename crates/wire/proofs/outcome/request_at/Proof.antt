@@ -1,5 +1,4 @@
 -- `wire::outcome::request_at` meets its contract: the request is there to read.
-use mathlib.Core.Path.{_≡_, _∙_}
 use borrow.Author.Needs.{needs}
 use borrow.Author.Tests.{le-leb}
 use Rattle.wire.proofs.outcome.request_at.Statement.{statement}
