@@ -1,6 +1,10 @@
 // A reply's head and lengths, as document 01 has them: "mark 4C 41, operation, level, result length (four bytes), result".
 ghost use mathlib.Core.Path.{_≡_};
-ghost use Rattle.rules.specs.Operations.{resultLength, replyLength, head};
+ghost use mathlib.Core.Bool.{cond};
+ghost use Prim.Native.Nat.{_+_};
+ghost use Rattle.lemmas.specs.Tests.{_is_};
+ghost use Rattle.rules.specs.Frame.{digestSize};
+ghost use Rattle.rules.specs.Operations.{resultLength, headSize, replyLength, head};
 use lemmas::pick;
 
 // How long the result is that a request calls for.
@@ -12,11 +16,18 @@ pub fn result_length(q: rules::Request) -> u32
     pick(q.operation == 1, q.B, r)
 }
 
-// How long the whole reply is: head, result, and at level 2 a digest.
+// How long a reply with a result of n bytes is: head, result, and at level 2 a digest.
+pub fn length_with(q: rules::Request, n: u32) -> u64
+    ensures { λ r. ⌜ r ≡ headSize + n + cond (q .level is 2) digestSize 0 ⌝ }
+{
+    8 + n as u64 + pick(q.level == 2, 32, 0) as u64
+}
+
+// How long the whole reply is.
 pub fn reply_length(q: rules::Request) -> u64
     ensures { λ r. ⌜ r ≡ replyLength q ⌝ }
 {
-    8 + result_length(q) as u64 + pick(q.level == 2, 32, 0) as u64
+    length_with(q, result_length(q))
 }
 
 // The eight bytes before a result of n bytes.
