@@ -1,5 +1,5 @@
--- What the code of `serve` and `grant` finds and does, in the rules' words: rows 8, 9 and the judged ones, and the parts of
--- a grant. All of one facts: its table is that of the frame's partition, its memory the frame's memory.
+-- What the code of `admit` finds and does, in the rules' words: rows 8, 9 and the judged ones, and the grant. All of the facts,
+-- keys, table and memory that a frame can see.
 use mathlib.Core.Path.{_≡_, refl, sym, ap, subst, _∙_}
 use mathlib.Core.Bool.{Bool, true, false, not, cond}
 use mathlib.Core.Option.{Option, none, some}
@@ -8,40 +8,53 @@ use Prim.Native.Nat.{ℕ, _+_, _-_, _*_, _≤_, _<_}
 use native.Mathlib.Omega.{arith}
 use borrow.Rule.Slice.PartMut.{midOf}
 use lib.ListN.{length, take, drop}
-use borrow.Author.Tests.{ne-eqb}
+use borrow.Author.Tests.{le-leb, ne-eqb}
 use Rattle.lemmas.specs.Tests.{_is_, _isnt_}
 use Rattle.lemmas.specs.Lists.{part, same, missing}
 use Rattle.lemmas.specs.RowTable.{Row, line, firstRow, row-here, row-next}
 use Rattle.digest.specs.Hmac.{hmac}
-use Rattle.digest.specs.declared.mac.Mac.{Mac}
 use Rattle.rules.specs.declared.Credential.{Credential}
 use Rattle.rules.specs.declared.Request.{Request}
 use Rattle.rules.specs.declared.Entry.{Entry}
 use Rattle.rules.specs.declared.Object.{Object}
-use Rattle.rules.specs.Frame.{Fields, fields, covered, entry}
+use Rattle.rules.specs.declared.Operation.{Operation}
+use Rattle.rules.specs.Frame.{Fields, fields, digestSize, covered, entry, operation, operationOf}
 use Rattle.rules.specs.Drive as rules
 use Rattle.rules.specs.Drive.{quarter, mostEntries}
 use Rattle.rules.specs.Scope.{Scope}
-use Rattle.rules.specs.Operations.{keyIn, signing, credentialKey, digestOf, placement, replyLength, remember}
-use Rattle.rules.specs.Rows.{row8, row9, driveRows, scopeRows}
+use Rattle.rules.specs.Operations.{
+  keyIn,
+  signing,
+  credentialKey,
+  digestOf,
+  placement,
+  headSize,
+  resultLength,
+  replyLength,
+  perform,
+  remember,
+}
+use Rattle.rules.specs.Rows.{row8, row9, row12, driveRows, scopeRows}
 use Rattle.rules.specs.Gate.{Answer, granted, refused}
+use Rattle.rules.proofs.Clear.{Clear, clear22}
+use Rattle.rules.proofs.Memories.{room-left}
 use Rattle.wire.specs.declared.ParsedRequest.{ParsedRequest}
-use Rattle.wire.specs.Parse.{numbersOf, frameRow, answerOf}
-use Rattle.wire.specs.ParseLaws.{answered-fields}
+use Rattle.wire.specs.Parse.{numbersOf, frameRow}
 use Rattle.keyring.specs.Keys.{keysIn}
+use Rattle.state.specs.declared.Lookup.{Lookup}
+use Rattle.state.specs.Table.{objectsIn, partitionIn, lookupIn}
+use Rattle.judge.specs.declared.ScopeFacts.{ScopeFacts}
+use Rattle.judge.specs.Judge.{placementFor, FactsHold}
 use Rattle.effect.specs.declared.GrantContext.{GrantContext}
 use Rattle.effect.specs.Effect.{mediumAfter}
-use Rattle.set_key.specs.Keys.{keysPut}
+use Rattle.effect.specs.Performed.{ContextFits, BytesFit, medium-is}
 use Rattle.sealed_reply.specs.Reply.{replyPut}
-use Rattle.judge.specs.Judge.{placementFor, FactsHold}
-use Rattle.state.specs.Table.{objectsIn, partitionIn}
-use Rattle.partition.specs.Partition.{partitionAfter}
-use Rattle.drive.specs.declared.ScopeFacts.{ScopeFacts}
+use Rattle.sealed_reply.specs.Performed.{reply-is}
+use Rattle.partition.specs.Applied.{ChangeFits}
 use Rattle.drive.specs.declared.Outcome.{Outcome}
-use Rattle.drive.specs.Admission.{scopeFrom, scopeAnswer, AdmitRequires, OutcomeMet}
-use Rattle.drive.specs.Grant.{grantContext, GrantFits, GrantRequires}
-use Rattle.drive.proofs.RowsPassed.{room}
-use Rattle.drive.proofs.Grants.{medium-is, reply-is, keys-is, partition-is}
+use Rattle.drive.specs.Admission.{scopeFrom, scopeAnswer, grantContext, AdmitRequires, OutcomeMet}
+use Rattle.drive.proofs.Frames.{parsed-row, parsed-credential, parsed-request}
+use Rattle.drive.proofs.Grants.{numbers-operation, bytes-fit, result-long, reply-room, context-fits, change-fits}
 
 -- the bytes of a key, as the code lends them
 pub secret-is : (ks : List ℕ) (j k : ℕ) → j ≡ k → midOf (32 * j) (32 * j + 32 - 32 * j) ks ≡ part ks (32 * k) 32
@@ -50,185 +63,213 @@ secret-is ks j k e =
     let n : 32 * j + 32 - 32 * j ≡ 32 = omega arith in
     ap (λ (i : ℕ). take i (drop (32 * j) ks)) n ∙ ap (λ (i : ℕ). take 32 (drop (32 * i) ks)) e
 
--- ---- rows 8 and on
-module _ (s : ScopeFacts) (ks t : List ℕ) (l : List Entry) (m f space : List ℕ) (c : Credential) (q : ParsedRequest)
+-- what the code works out before it judges: the request's numbers, the lengths of result and reply, the object that the
+-- credential names, and where a new extent would start
+pub record Prepared (s : ScopeFacts) (t : List ℕ) (c : Credential) (q : ParsedRequest) (r : Request) (n whole : ℕ)
+    (found : Lookup) (place : Option ℕ) : Type 0 where
+  pub numbers : r ≡ numbersOf q
+  pub result : n ≡ resultLength r
+  pub reply : whole ≡ headSize + n + cond (r .level is 2) digestSize 0
+  pub named : found ≡ lookupIn (objectsIn t) (c .object)
+  pub placed : place ≡ placementFor (quarter (s .size)) (objectsIn t) r
+
+module _ {s : ScopeFacts} {ks t : List ℕ} {l : List Entry} {m f : List ℕ} {c : Credential} {q : ParsedRequest}
     (w : AdmitRequires s ks t l m f c q) where
   abbrev y : Fields
   y = fields f
 
-  abbrev keys : rules.Keys
-  keys = keysIn ks
+  abbrev S : Scope Object
+  S = scopeFrom s ks t l
 
-  pub zero-row : frameRow f ≡ 0
-  zero-row = answered-fields f c q (w .parsed) .0
+  c-is : c ≡ y .cred
+  c-is = parsed-credential (w .parsed)
 
-  pub c-is : c ≡ y .cred
-  c-is = answered-fields f c q (w .parsed) .1
+  q-is : numbersOf q ≡ y .req
+  q-is = parsed-request (w .parsed)
 
-  pub q-is : numbersOf q ≡ y .req
-  q-is = answered-fields f c q (w .parsed) .2
+  name-is : operationOf y ≡ q .operation
+  name-is = ap operation (sym q-is) ∙ numbers-operation q
 
-  abbrev table : List Row
-  table = driveRows (scopeFrom s ks t l) y space
+  -- ---- rows 8 and on, for a reply space
+  module _ (space : List ℕ) where
+    abbrev table : List Row
+    table = driveRows S y space
 
-  abbrev judged : List Row
-  judged = scopeRows (scopeFrom s ks t l) (y .cred) (y .req) (length space)
+    abbrev judged : List Row
+    judged = scopeRows S (y .cred) (y .req) (length space)
 
-  table-is : table ≡ line 8 (row8 (scopeFrom s ks t l) (y .cred)) ∷ line 9 (row9 (scopeFrom s ks t l) y) ∷ judged
-  unfolding driveRows
-  table-is = refl
+    abbrev from9 : List Row
+    from9 = line 9 (row9 S y) ∷ judged
+
+    table-is : table ≡ line 8 (row8 S (y .cred)) ∷ from9
+    unfolding driveRows
+    table-is = refl
+
+    pub eight : keyIn (keysIn ks) (c .partition) (c .slot) ≡ none → firstRow table ≡ 8
+    unfolding row8 missing
+    eight unset =
+        let r : row8 S (y .cred) ≡ true = rw (← c-is, unset) refl in
+        ap firstRow table-is ∙ row-here (line 8 (row8 S (y .cred))) from9 r
 
   -- the key that the code found
-  module _ (key : Option (List ℕ)) (found : keyIn keys (c .partition) (c .slot) ≡ key) where
-    found-is : keyIn keys (y .cred .partition) (y .cred .slot) ≡ key
-    found-is = ap (λ (k : Credential). keyIn keys (k .partition) (k .slot)) (sym c-is) ∙ found
+  module _ {secret : List ℕ} (set : keyIn (keysIn ks) (c .partition) (c .slot) ≡ some secret) where
+    found-is : keyIn (keysIn ks) (y .cred .partition) (y .cred .slot) ≡ some secret
+    found-is = ap (λ (k : Credential). keyIn (keysIn ks) (k .partition) (k .slot)) (sym c-is) ∙ set
 
-    pub eight : key ≡ none → firstRow table ≡ 8
+    signing-is : signing (keysIn ks) y ≡ secret
+    unfolding signing
+    signing-is = rw found-is refl
+
+    set-is : keyIn (keysIn ks) (y .cred .partition) (y .cred .slot) ≡ some (signing (keysIn ks) y)
+    set-is = found-is ∙ ap (λ (k : List ℕ). some k) (sym signing-is)
+
+    pub credential-key : hmac secret (y .credential) ≡ credentialKey (keysIn ks) y
+    unfolding credentialKey
+    credential-key = ap (λ (k : List ℕ). hmac k (y .credential)) (sym signing-is)
+
+    past8 : (space : List ℕ) → firstRow (table space) ≡ firstRow (from9 space)
     unfolding row8 missing
-    eight h =
-        let r : row8 (scopeFrom s ks t l) (y .cred) ≡ true = rw (found-is, h) refl in
-        ap firstRow table-is
-        ∙ row-here (line 8 (row8 (scopeFrom s ks t l) (y .cred))) (line 9 (row9 (scopeFrom s ks t l) y) ∷ judged) r
+    past8 space =
+        let r : row8 S (y .cred) ≡ false = rw found-is refl in
+        ap firstRow (table-is space) ∙ row-next (line 8 (row8 S (y .cred))) (from9 space) r
 
-    module _ (secret : List ℕ) (set : key ≡ some secret) where
-      pub signing-is : signing keys y ≡ secret
-      unfolding signing
-      signing-is = rw (found-is, set) refl
+    -- the digest compared
+    module _ (space : List ℕ) (signed : Bool) (compared : signed ≡ same (y .digest) (hmac (credentialKey (keysIn ks) y)
+        (covered (q .level) (y .credential) (y .request) (y .payload)))) where
+      row9-is : row9 S y ≡ not signed
+      unfolding row9 digestOf numbersOf
+      row9-is = ap not (ap (λ (l : ℕ). same (y .digest) (hmac (credentialKey (keysIn ks) y)
+          (covered l (y .credential) (y .request) (y .payload)))) (sym (ap Request.level q-is)) ∙ sym compared)
 
-      pub set-is : keyIn keys (y .cred .partition) (y .cred .slot) ≡ some (signing keys y)
-      set-is = found-is ∙ set ∙ ap (λ (k : List ℕ). some k) (sym signing-is)
+      pub nine : signed ≡ false → firstRow (table space) ≡ 9
+      nine h = past8 space ∙ row-here (line 9 (row9 S y)) (judged space) (row9-is ∙ ap not h)
 
-      pub credential-key : hmac secret (y .credential) ≡ credentialKey keys y
-      unfolding credentialKey
-      credential-key = ap (λ (k : List ℕ). hmac k (y .credential)) (sym signing-is)
-
-      past8 : row8 (scopeFrom s ks t l) (y .cred) ≡ false
-      unfolding row8 missing
-      past8 = rw (found-is, set) refl
-
-      from9 : firstRow table ≡ firstRow (line 9 (row9 (scopeFrom s ks t l) y) ∷ judged)
-      from9 = ap firstRow table-is
-          ∙ row-next (line 8 (row8 (scopeFrom s ks t l) (y .cred))) (line 9 (row9 (scopeFrom s ks t l) y) ∷ judged) past8
-
-      -- the digest compared
-      module _ (signed : Bool)
-          (compared : signed ≡ same (y .digest) (hmac (credentialKey keys y) (covered (q .level) (y .credential) (y .request) (y .payload))))
-        where
-          row9-is : row9 (scopeFrom s ks t l) y ≡ not signed
-          unfolding row9 digestOf numbersOf
-          row9-is = ap not (ap (λ (l : ℕ). same (y .digest) (hmac (credentialKey keys y)
-              (covered l (y .credential) (y .request) (y .payload)))) (sym (ap Request.level q-is)) ∙ sym compared)
-
-          pub nine : signed ≡ false → firstRow table ≡ 9
-          nine h = from9 ∙ row-here (line 9 (row9 (scopeFrom s ks t l) y)) judged (row9-is ∙ ap not h)
-
-          pub from10 : signed ≡ true → firstRow table ≡ firstRow (scopeRows (scopeFrom s ks t l) c (numbersOf q) (length space))
-          from10 h =
-              from9 ∙ row-next (line 9 (row9 (scopeFrom s ks t l) y)) judged (row9-is ∙ ap not h)
-              ∙ rw (c-is, q-is) refl
-
-  -- what the judge is told
-  pub judge-facts : FactsHold (scopeFrom s ks t l) (s .highwater) (partitionIn t) (s .replayed) (s .held) c (numbersOf q)
-      (placementFor (quarter (s .size)) (objectsIn t) (numbersOf q))
-  unfolding placement partitionIn
-  judge-facts = record { marked = refl; own = refl; repeats = w .replayed; entries = w .held; placed = refl }
+      pub from10 : signed ≡ true → firstRow (table space) ≡ firstRow (scopeRows S c (numbersOf q) (length space))
+      from10 h =
+          past8 space ∙ row-next (line 9 (row9 S y)) (judged space) (row9-is ∙ ap not h)
+          ∙ rw (c-is, q-is) refl
 
   -- ---- a refusal
-  pub refusal-given : (r : Outcome) (n : ℕ) → firstRow table ≡ n → (n ≡ 0 → ⊥)
-      → r ≡ record { row = n; length = 0; next = 0; place = 0 }
-      → OutcomeMet (scopeAnswer (scopeFrom s ks t l) m y space) ks t f q r m space
-  unfolding scopeAnswer
-  refusal-given r n first z e = subst (λ (a : Answer (Scope Object)). OutcomeMet a ks t f q r m space) (sym answer) (record {
-    row = ap Outcome.row e;
-    length = ap Outcome.length e;
-    medium = refl;
-    space = refl;
-    set = λ k. absurd (z (sym (ap Outcome.row e) ∙ k));
-    keys = λ k. absurd (z (sym (ap Outcome.row e) ∙ k));
-    partition = λ k. absurd (z (sym (ap Outcome.row e) ∙ k));
-  })
-    where
-      answer : scopeAnswer (scopeFrom s ks t l) m y space ≡ refused n (scopeFrom s ks t l) m space
-      answer = rw (first, ne-eqb n 0 z) refl
+  module _ (space : List ℕ) where
+    pub refusal-given : (r : Outcome) (n : ℕ) → firstRow (table space) ≡ n → (n ≡ 0 → ⊥)
+        → r ≡ record { row = n; length = 0; nextversion = 0; newstart = 0 }
+        → OutcomeMet S m f space (q .operation) r m space
+    unfolding scopeAnswer
+    refusal-given r n first z e = record {
+      row = ap Outcome.row e ∙ ap Answer.row (sym answer);
+      length = ap Outcome.length e ∙ ap Answer.length (sym answer);
+      medium = ap Answer.medium (sym answer);
+      space = ap Answer.space (sym answer);
+      set = λ k. absurd (z (sym (ap Outcome.row e) ∙ k));
+      fits = λ k. absurd (z (sym (ap Outcome.row e) ∙ k));
+    }
+      where
+        answer : scopeAnswer S m y space ≡ refused n S m space
+        answer = rw (first, ne-eqb n 0 z) refl
 
-  -- ---- no row applies: the grant
-  pub granted-given : (r : Outcome) (after replied : List ℕ) → firstRow table ≡ 0
-      → OutcomeMet (granted (scopeFrom s ks t l) m y space) ks t f q r after replied
-      → OutcomeMet (scopeAnswer (scopeFrom s ks t l) m y space) ks t f q r after replied
-  unfolding scopeAnswer
-  granted-given r after replied first g = subst (λ (a : Answer (Scope Object)). OutcomeMet a ks t f q r after replied) (sym answer) g
-    where
-      answer : scopeAnswer (scopeFrom s ks t l) m y space ≡ granted (scopeFrom s ks t l) m y space
+    -- ---- no row applies
+    module _ (first : firstRow (table space) ≡ 0) where
+      clear : Clear f S space
+      unfolding frameRow
+      clear = record { frame = parsed-row (w .parsed); drive = first }
+
+      answer : scopeAnswer S m y space ≡ granted S m y space
+      unfolding scopeAnswer
       answer = rw first refl
 
-  pub room-of : firstRow table ≡ 0 → GrantFits (scopeFrom s ks t l) m y space
-  unfolding frameRow
-  room-of g = room (record { frame = zero-row; drive = g }) (w .sound) (w .short) m (ap quarter (sym (w .size)))
+      -- what a grant enters, and that there is room for it
+      pub memory-entered : l ++ (entry c (numbersOf q) ∷ []) ≡ scopeAnswer S m y space .drive .memory
+      unfolding granted remember
+      memory-entered = rw (answer, c-is, q-is) refl
 
-  -- the place that was looked for
-  pub placed-is : placementFor (quarter (s .size)) (objectsIn t) (numbersOf q)
-      ≡ cond (y .req .operation isnt 5) none (placement (scopeFrom s ks t l) (y .req .B))
-  unfolding placement partitionIn
-  placed-is = rw q-is refl
+      pub memory-room : length l < mostEntries
+      memory-room = room-left S (clear22 clear) (le-leb (length l) mostEntries (w .short))
 
-  -- what a grant enters
-  pub memory-entered : firstRow table ≡ 0
-      → l ++ (entry c (numbersOf q) ∷ []) ≡ scopeAnswer (scopeFrom s ks t l) m y space .drive .memory
-  unfolding scopeAnswer granted remember
-  memory-entered first = rw (first, c-is, q-is) refl
+      -- what it performs
+      pub keys-performed : scopeAnswer S m y space .drive .keys ≡ perform (q .operation) S y m .scope .keys
+      unfolding granted
+      keys-performed = rw (answer, name-is) refl
 
-  -- there is room for it
-  pub memory-room : firstRow table ≡ 0 → length l < mostEntries
-  memory-room first = room-of first .entries
+      pub partition-performed : scopeAnswer S m y space .drive .partition ≡ perform (q .operation) S y m .scope .partition
+      unfolding granted
+      partition-performed = rw (answer, name-is) refl
 
--- ---- the parts of a grant
-module _ (s : ScopeFacts) (ks t : List ℕ) (l : List Entry) (hash : Mac) (m f space : List ℕ) (c : Credential) (q : ParsedRequest)
-    (start : Option ℕ) (g : GrantRequires s ks t l hash m f space c q start) where
-  abbrev v : Fields
-  v = fields f
+  -- ---- what is judged, and granted, of what the code worked out
+  module _ {r : Request} {n whole : ℕ} {found : Lookup} {place : Option ℕ} (p : Prepared s t c q r n whole found place)
+    where
+      whole-is : whole ≡ replyLength r
+      unfolding replyLength
+      whole-is = p .reply ∙ ap (λ (i : ℕ). headSize + i + cond (r .level is 2) digestSize 0) (p .result)
 
-  abbrev d : Scope Object
-  d = scopeFrom s ks t l
+      r-is : r ≡ y .req
+      r-is = p .numbers ∙ q-is
 
-  c-g : c ≡ v .cred
-  c-g = answered-fields f c q (g .parsed) .1
+      -- what the judge knows
+      pub judge-facts : FactsHold S s (partitionIn t) c (q .operation) r found place whole
+      unfolding placement partitionIn numbersOf
+      judge-facts = record {
+        marked = refl;
+        own = refl;
+        repeats = ap (row12 S c) (p .numbers) ∙ w .replayed;
+        entries = w .held;
+        number = sym (ap Request.operation (p .numbers));
+        named = p .named;
+        placed = p .placed;
+        whole = whole-is;
+      }
 
-  q-g : numbersOf q ≡ v .req
-  q-g = answered-fields f c q (g .parsed) .2
+      -- the grant
+      module _ (space : List ℕ) (first : firstRow (table space) ≡ 0) where
+        named-y : found ≡ lookupIn (S .partition .objects) (y .cred .object)
+        unfolding partitionIn
+        named-y = p .named ∙ ap (λ (h : Credential). lookupIn (objectsIn t) (h .object)) c-is
 
-  abbrev here : GrantContext
-  here = grantContext (s .size) (partitionIn t) c start
+        placed-y : place ≡ cond (y .req .operation isnt 5) none (placement S (y .req .B))
+        unfolding placement partitionIn
+        placed-y = p .placed ∙ ap (placementFor (quarter (s .size)) (objectsIn t)) r-is
 
-  site-g : here ≡ grantContext (s .size) (d .partition) (v .cred) start
-  site-g = rw c-g refl
+        pub granted-given : {secret : List ℕ} → keyIn (keysIn ks) (c .partition) (c .slot) ≡ some secret
+            → (k : GrantContext) → k ≡ grantContext (s .size) (partitionIn t) c found place
+            → (after replied : List ℕ) → after ≡ mediumAfter (q .operation) k (y .payload) m
+            → replied ≡ replyPut (credentialKey (keysIn ks) y) (y .credential ++ y .request) r n (q .operation) k m space
+            → OutcomeMet S m f space (q .operation)
+            (record { row = 0; length = whole; nextversion = k .nextversion; newstart = k .newstart }) after replied
+        unfolding granted
+        granted-given set k k-is after replied medium-e reply-e = record {
+          row = ap Answer.row (sym (answer space first));
+          length = whole-is ∙ ap replyLength r-is ∙ ap Answer.length (sym (answer space first));
+          medium = medium-e ∙ ap (λ (o : Operation). mediumAfter o k (y .payload) m) (sym name-is)
+              ∙ medium-is (operationOf y) S y m k fits bytes ∙ ap Answer.medium (sym (answer space first));
+          space = reply-e
+              ∙ ap (λ (o : Operation). replyPut (credentialKey (keysIn ks) y) (y .credential ++ y .request) r n o k m space)
+              (sym name-is)
+              ∙ ap (λ (b : Request). replyPut (credentialKey (keysIn ks) y) (y .credential ++ y .request) b n (operationOf y)
+              k m space) r-is
+              ∙ reply-is (operationOf y) S y m k fits bytes n n-is space room ∙ ap Answer.space (sym (answer space first));
+          set = λ z. set-is set;
+          fits = λ z. changes;
+        }
+          where
+            there : k ≡ grantContext (s .size) (S .partition) (y .cred) found place
+            there = k-is ∙ ap (λ (h : Credential). grantContext (s .size) (partitionIn t) h found place) c-is
 
-  pub medium-g : mediumAfter (q .operation) here (v .payload) m ≡ granted d m v space .medium
-  unfolding granted
-  medium-g = ap (λ (h : GrantContext). mediumAfter (q .operation) h (v .payload) m) site-g
-      ∙ medium-is d (s .size) refl m f space q q-g (g .room) start (g .place)
+            fits : ContextFits (operationOf y) S (y .cred) k
+            fits = subst (ContextFits (operationOf y) S (y .cred)) (sym there)
+                (context-fits (clear space first) (w .sound) (s .size) refl m (w .size) named-y placed-y)
 
-  pub space-g : replyPut (credentialKey (keysIn ks) v) (v .credential ++ v .request) (numbersOf q) (q .operation)
-      here m space ≡ granted d m v space .space
-  unfolding granted
-  space-g = ap (λ (h : GrantContext). replyPut (credentialKey (keysIn ks) v) (v .credential ++ v .request) (numbersOf q)
-      (q .operation) h m space) site-g
-      ∙ reply-is d (s .size) refl m f space q q-g (g .room) start (g .place)
+            bytes : BytesFit (operationOf y) S y m
+            bytes = bytes-fit (clear space first) (w .sound) (s .size) refl m (w .size)
 
-  pub length-g : replyLength (numbersOf q) ≡ granted d m v space .length
-  unfolding granted
-  length-g = ap replyLength q-g
+            long : n ≡ resultLength (y .req)
+            long = p .result ∙ ap resultLength r-is
 
-  pub keys-g : keysPut (q .operation) (v .cred .slot) (v .cred .partition) (signing (keysIn ks) v)
-      (v .request ++ v .payload) (keysIn ks) ≡ granted d m v space .drive .keys
-  unfolding granted
-  keys-g = keys-is d (s .size) refl m f space q q-g (g .room) start (g .place)
+            n-is : n ≡ length (perform (operationOf y) S y m .result)
+            n-is = long ∙ result-long (clear space first) (w .sound) (s .size) refl m (w .size)
 
-  pub partition-g : partitionAfter (q .operation) (v .cred .object) (here .next) (here .place) (partitionIn t)
-      ≡ granted d m v space .drive .partition
-  unfolding granted
-  partition-g =
-      ap (λ (h : GrantContext). partitionAfter (q .operation) (v .cred .object) (h .next) (h .place) (partitionIn t)) site-g
-      ∙ partition-is d (s .size) refl m f space q q-g (g .room) start (g .place)
+            room : headSize + n + cond (y .req .level is 2) digestSize 0 ≤ length space
+            room = rw long (reply-room (clear space first) (w .sound) (s .size) refl m (w .size))
 
-  pub four-g : c .partition < 4
-  four-g = subst (λ (h : Credential). h .partition < 4) (sym c-g) (g .room .four)
+            changes : ChangeFits (q .operation) S (k .nextversion) (k .newstart)
+            changes = subst (λ (o : Operation). ChangeFits o S (k .nextversion) (k .newstart)) name-is
+                (subst (λ (h : GrantContext). ChangeFits (operationOf y) S (h .nextversion) (h .newstart)) (sym there)
+                (change-fits (clear space first) (w .sound) (s .size) refl m (w .size) named-y placed-y))

@@ -1,72 +1,91 @@
 -- A frame that none of rows 2 to 7 refuses: its length, its partition, and its parts as slices of it.
+-- f: the frame. c, q: what its parse gave.
 use mathlib.Core.Path.{_≡_, refl, ap, _∙_}
-use mathlib.Core.Bool.{true, false}
+use mathlib.Core.Bool.{true, false, cond}
 use mathlib.Core.List.{List, _++_}
 use Prim.Native.Nat.{ℕ, _+_, _-_, _<_}
 use native.Mathlib.Omega.{arith}
 use lib.ListN.{length, take, drop}
 use lib.Seq.{take-add, drop-drop}
 use borrow.Author.Tests.{eqb-true, not-false}
-use Rattle.lemmas.specs.Tests.{_is_, or-r}
+use Rattle.lemmas.specs.Tests.{_is_, _under_, or-r}
 use Rattle.lemmas.specs.Lists.{every, part}
 use Rattle.lemmas.specs.RowTable.{applies, none-applies}
-use Rattle.rules.specs.Frame.{fields, memoryIndex}
-use Rattle.rules.specs.Rows.{row4, row5, frameRows}
+use Rattle.rules.specs.declared.Credential.{Credential}
+use Rattle.rules.specs.Frame.{credentialSize, requestSize, digestSize, dataStart, fields, memoryIndex}
+use Rattle.rules.specs.Rows.{leastFrame, row4, row5, frameRows}
 use Rattle.rules.proofs.Clear.{low-partition, low-memory}
-use Rattle.wire.specs.Parse.{frameRow}
+use Rattle.wire.specs.declared.ParsedRequest.{ParsedRequest}
+use Rattle.wire.specs.Parse.{frameRow, numbersOf}
+use Rattle.wire.specs.ParseLaws.{answered-fields}
+use Rattle.drive.specs.Admission.{ParsedTo}
 
-module _ (f : List ℕ) (z : frameRow f ≡ 0) where
+module _ {f : List ℕ} {c : Credential} {q : ParsedRequest} (parsed : ParsedTo f c q) where
+  pub parsed-row : frameRow f ≡ 0
+  parsed-row = answered-fields f c q (parsed .answer) .0
+
+  pub parsed-credential : c ≡ fields f .cred
+  parsed-credential = answered-fields f c q (parsed .answer) .1
+
+  pub parsed-request : numbersOf q ≡ fields f .req
+  parsed-request = answered-fields f c q (parsed .answer) .2
+
   none : (n : ℕ) → applies n (frameRows f (fields f)) ≡ false
   unfolding frameRow frameRows every
-  none n = none-applies (frameRows f (fields f)) refl z n
+  none n = none-applies (frameRows f (fields f)) refl parsed-row n
 
-  clear4 : row4 (fields f .cred) (fields f .req) ≡ false
+  clear : (row4 (fields f .cred) (fields f .req) ≡ false) × (row5 (fields f .req) f ≡ false)
   unfolding frameRows applies
-  clear4 = none 4
-
-  clear5 : row5 (fields f .req) f ≡ false
-  unfolding frameRows applies
-  clear5 = none 5
+  clear = (none 4, none 5)
 
   -- "the frame is as long as its parts together"
-  pub long : length f ≡ 96 + fields f .req .n
-  long = eqb-true (length f) (96 + fields f .req .n)
-      (not-false (length f is 96 + fields f .req .n) (search (or-r, clear5)))
+  pub long : length f ≡ leastFrame + fields f .req .n
+  long = eqb-true (length f) (leastFrame + fields f .req .n)
+      (not-false (length f is leastFrame + fields f .req .n) (let c = clear .1 in search (or-r, c)))
 
-  pub in-four : fields f .cred .partition < 4
-  in-four = low-partition (fields f) clear4
+  -- the places of its partition and of its memory
+  pub partition-is : c .partition ≡ fields f .cred .partition
+  partition-is = ap Credential.partition parsed-credential
 
-  pub in-five : memoryIndex (fields f .cred) < 5
-  in-five = low-memory (fields f) clear4
+  pub in-four : c .partition < 4
+  in-four = let h = low-partition (fields f) (clear .0) in omega (arith, partition-is)
+
+  pub memory-is : cond (c .slot under 3) (c .partition) 4 ≡ memoryIndex (fields f .cred)
+  unfolding memoryIndex
+  memory-is = ap (λ (e : Credential). cond (e .slot under 3) (e .partition) 4) parsed-credential
+
+  pub in-five : cond (c .slot under 3) (c .partition) 4 < 5
+  in-five = let h = low-memory (fields f) (clear .0) in omega (arith, memory-is)
 
 -- ---- the parts
-pub the-credential : (f : List ℕ) → take 36 f ≡ fields f .credential
+pub the-credential : (f : List ℕ) → take credentialSize f ≡ fields f .credential
 unfolding fields part
 the-credential f = refl
 
-pub both-records : (f : List ℕ) → take 64 f ≡ fields f .credential ++ fields f .request
+pub both-records : (f : List ℕ) → take dataStart f ≡ fields f .credential ++ fields f .request
 unfolding fields part
-both-records f = take-add 36 28 f
+both-records f = take-add credentialSize requestSize f
 
-module _ (f : List ℕ) (h : length f ≡ 96 + fields f .req .n) where
+module _ (f : List ℕ) (h : length f ≡ leastFrame + fields f .req .n) where
   abbrev end : ℕ
-  end = length f - 32
+  end = length f - digestSize
 
-  pub the-payload : take (end - 64) (drop 64 f) ≡ fields f .payload
+  pub the-payload : take (end - dataStart) (drop dataStart f) ≡ fields f .payload
   unfolding fields part
-  the-payload = let e : end - 64 ≡ fields f .req .n = omega arith in rw e
+  the-payload = let e : end - dataStart ≡ fields f .req .n = omega arith in rw e
 
   pub the-digest : take (length f - end) (drop end f) ≡ fields f .digest
   unfolding fields part
   the-digest =
-      let e : length f - end ≡ 32 = omega arith in
-      let g : end ≡ 64 + fields f .req .n = omega arith in
+      let e : length f - end ≡ digestSize = omega arith in
+      let g : end ≡ dataStart + fields f .req .n = omega arith in
       rw (e, g)
 
   -- request and data, what a new key is made from
-  pub request-and-data : take (end - 36) (drop 36 f) ≡ fields f .request ++ fields f .payload
+  pub request-and-data : take (end - credentialSize) (drop credentialSize f) ≡ fields f .request ++ fields f .payload
   unfolding fields part
   request-and-data =
-      let e : end - 36 ≡ 28 + fields f .req .n = omega arith in
-      rw e (take-add 28 (fields f .req .n) (drop 36 f)
-      ∙ ap (λ (l : List ℕ). take 28 (drop 36 f) ++ take (fields f .req .n) l) (drop-drop 28 36 f))
+      let e : end - credentialSize ≡ requestSize + fields f .req .n = omega arith in
+      rw e (take-add requestSize (fields f .req .n) (drop credentialSize f)
+      ∙ ap (λ (l : List ℕ). take requestSize (drop credentialSize f) ++ take (fields f .req .n) l)
+      (drop-drop requestSize credentialSize f))

@@ -1,66 +1,52 @@
--- What the code does at a grant is what the rules say, operation by operation, where everything has room.
-use mathlib.Core.Path.{_≡_, refl, sym, ap, subst, _∙_}
-use mathlib.Core.Bool.{Bool, true, false, cond}
+-- A frame that no row refuses: where its grant works, and that there is room for all that it does.
+-- f: the frame. s: the scope. m: the medium, of M bytes.
+use mathlib.Core.Path.{_≡_, refl, sym, ap, _∙_}
 use mathlib.Core.Option.{Option, none, Option·getD}
-use mathlib.Core.List.{List, [], _∷_, _++_, append-nil, append-assoc}
-use Prim.Native.Nat.{ℕ, _+_, _*_, _≤_, _<_}
+use mathlib.Core.List.{List, [], _∷_}
+use mathlib.Core.Bool.{true, cond}
+use Prim.Native.Nat.{ℕ, _+_, _*_, _≤_}
 use native.Mathlib.Omega.{arith}
-use lib.Dec.{leb}
-use lib.ListN.{length, take, getD, replicate, length-append, take-append-drop}
-use borrow.Author.Tests.{le-leb, lt-ltb, ne-eqb}
-use Rattle.lemmas.specs.Tests.{_is_, _isnt_}
-use Rattle.lemmas.specs.Lists.{part, splice}
-use Rattle.lemmas.specs.Parts.{length-part, length-splice, splice-front}
-use Rattle.lemmas.specs.Layout.{splice-after-size}
-use Rattle.lemmas.specs.BigEndian.{bigEndian, length-bigEndian}
-use Rattle.digest.specs.Hmac.{hmac}
-use Rattle.digest.specs.DigestLaws.{length-hmac}
-use Rattle.rules.specs.declared.Request.{Request}
+use lib.ListN.{length, getD}
+use borrow.Author.Tests.{eqb-false, ltb-false, ne-eqb}
+use Rattle.lemmas.specs.Tests.{_is_, _isnt_, and-rest-false}
+use Rattle.lemmas.specs.Parts.{length-part}
 use Rattle.rules.specs.declared.Object.{Object}
-use Rattle.rules.specs.Frame.{Fields, fields, operation, operationOf}
-use Rattle.rules.specs.Drive.{Partition, quarter}
+use Rattle.rules.specs.declared.Operation.{Operation}
+use Rattle.rules.specs.declared.Operation.the-variants.{Read, Write, Look, Raise, Create, Delete, SetKey}
+use Rattle.rules.specs.Frame.{Fields, fields, digestSize, operation, operationOf}
+use Rattle.rules.specs.Drive.{quarter, lastVersion}
 use Rattle.rules.specs.Scope.{Scope}
 use Rattle.rules.specs.Operations.{
   namedObject,
   objectOf,
   presentVersion,
-  quarterStart,
   extentStart,
   placement,
   placementStart,
+  nextVersion,
+  headSize,
   resultLength,
   replyLength,
-  head,
-  headed,
-  sealed,
-  reply,
-  credentialKey,
-  signing,
-  newKey,
-  keySet,
-  raised,
-  created,
-  deleted,
   perform,
 }
-use Rattle.rules.specs.Rows.{isTransfer, givesVersion}
-use Rattle.rules.proofs.Clear.{asks-for}
+use Rattle.rules.specs.Rows.{isTransfer, givesVersion, row21}
+use Rattle.rules.proofs.Holds.{quarter-in, Grant}
+use Rattle.rules.proofs.Sound.{SoundScope}
+use Rattle.rules.proofs.RepliesBack.{sound-named}
 use Rattle.rules.proofs.Shown.{result-length}
-use Rattle.rules.specs.declared.Operation.{Operation}
-use Rattle.rules.specs.declared.Operation.the-variants.{Read, Write, Look, Raise, Create, Delete, SetKey}
+use Rattle.rules.proofs.Clear.{Clear, asks-for, clear21, clear23, in-four, in-seven, in-object, read-moves, write-moves, grant}
 use Rattle.wire.specs.declared.ParsedRequest.{ParsedRequest}
 use Rattle.wire.specs.Parse.{operationNumber, firstNumber, secondNumber, numbersOf}
-use Rattle.octets.specs.Numbers.{numberPut}
+use Rattle.state.specs.declared.Lookup.{Lookup}
+use Rattle.state.specs.Table.{lookupIn}
 use Rattle.effect.specs.declared.GrantContext.{GrantContext}
-use Rattle.effect.specs.Effect.{nextVersionOf, objectStart, mediumAfter}
-use Rattle.result.specs.Result.{resultPut}
-use Rattle.set_key.specs.Keys.{keysPut}
-use Rattle.sealed_reply.specs.Reply.{sealPut, resultReply, replyPut}
-use Rattle.partition.specs.Partition.{raisedTo, createdTo, partitionAfter}
-use Rattle.drive.specs.Grant.{grantContext, GrantFits}
+use Rattle.effect.specs.Effect.{nextVersionOf}
+use Rattle.effect.specs.Performed.{ContextFits, BytesFit}
+use Rattle.partition.specs.Applied.{ChangeFits}
+use Rattle.drive.specs.Admission.{grantContext}
 
 -- the operation of a parsed request's numbers is its own
-numbers-operation : (q : ParsedRequest) → operation (numbersOf q) ≡ q .operation
+pub numbers-operation : (q : ParsedRequest) → operation (numbersOf q) ≡ q .operation
 unfolding operation numbersOf
 numbers-operation q = go (q .operation)
   where
@@ -75,225 +61,72 @@ numbers-operation q = go (q .operation)
     go Delete = refl
     go (SetKey target) = refl
 
--- nothing put anywhere
-splice-none : (s : List ℕ) → splice s 8 [] ≡ s
-unfolding splice
-splice-none s = take-append-drop 8 s
-
-module _ (v : Scope Object) (M : ℕ) (q-is : v .quarter ≡ quarter M) (m f space : List ℕ) (q : ParsedRequest)
-    (e : numbersOf q ≡ fields f .req) (w : GrantFits v m (fields f) space) (start : Option ℕ)
-    (placed : start ≡ cond (fields f .req .operation isnt 5) none (placement v (fields f .req .B))) where
+module _ {f : List ℕ} {s : Scope Object} {space : List ℕ} (g : Clear f s space) (sound-s : SoundScope s) (M : ℕ)
+    (q-is : s .quarter ≡ quarter M) (m : List ℕ) (size : length m ≡ M) where
   abbrev x : Fields
   x = fields f
 
-  abbrev P : Partition Object
-  P = v .partition
+  in-medium : x .cred .partition * s .quarter + s .quarter ≤ length m
+  in-medium = rw (q-is, size) (quarter-in M (x .cred .partition) (in-four g))
 
-  abbrev s : GrantContext
-  s = grantContext M P (x .cred) start
+  granting : Grant (operationOf x) s x
+  granting = grant g sound-s
 
-  -- the request's numbers are the operation's
-  number-is : x .req .operation ≡ operationNumber (q .operation)
-  unfolding numbersOf
-  number-is = sym (ap Request.operation e)
+  in-extent : isTransfer (x .req) ≡ true → extentStart s (x .cred) + objectOf s (x .cred) .size ≤ length m
+  unfolding extentStart
+  in-extent h = omega (arith, sound-named g sound-s h .inside, in-medium)
 
-  first-is : x .req .A ≡ firstNumber (q .operation)
-  unfolding numbersOf
-  first-is = sym (ap Request.A e)
+  pub bytes-fit : BytesFit (operationOf x) s x m
+  bytes-fit = record {
+    read = λ a b o.
+        let k = asks-for (x .req) (Read a b) o in
+        omega (arith, in-extent (read-moves g o), in-object g (read-moves g o), k .1, k .2);
+    extent = λ a b o. in-extent (write-moves g o);
+    written = λ a b o. omega (arith, granting .writes a b o .len, granting .writes a b o .fits);
+    cleared = λ a b o. omega (arith, granting .creates a b o .place .inside, in-medium);
+  }
 
-  second-is : x .req .B ≡ secondNumber (q .operation)
-  unfolding numbersOf
-  second-is = sym (ap Request.B e)
+  -- the result is as long as the request calls for, and the reply has room
+  pub result-long : resultLength (x .req) ≡ length (perform (operationOf x) s x m .result)
+  result-long = sym (result-length s x m (in-seven g .0) (in-seven g .1)
+      (λ a b o. length-part m (extentStart s (x .cred) + a) b (bytes-fit .read a b o)))
 
-  pub name-is : operationOf x ≡ q .operation
-  name-is = ap operation (sym e) ∙ numbers-operation q
+  pub reply-room : headSize + resultLength (x .req) + cond (x .req .level is 2) digestSize 0 ≤ length space
+  unfolding replyLength
+  reply-room = ltb-false (length space) (replyLength (x .req)) (clear23 g)
 
-  -- the operation is o, and carries the request's numbers
-  pub record Is (o : Operation) : Type 0 where
-    pub number : x .req .operation ≡ operationNumber o
-    pub first : x .req .A ≡ firstNumber o
-    pub second : x .req .B ≡ secondNumber o
-
-  asked : Is (q .operation)
-  asked = record { number = number-is; first = first-is; second = second-is }
-
-  -- ---- the medium
-  medium-by : (o : Operation) → Is o → operationOf x ≡ o → mediumAfter o s (x .payload) m ≡ perform o v x m .medium
-  unfolding perform grantContext extentStart objectOf namedObject placementStart
-  medium-by (Read a b) i n = refl
-  medium-by (Write a b) i n =
-      let mv : isTransfer (x .req) ≡ true = rw (i .number) refl in
-      let l : length (x .payload) ≡ b = w .payload a b n in
-      rw (
-        ← q-is,
-        le-leb (quarterStart v (x .cred) + objectOf v (x .cred) .start + objectOf v (x .cred) .size) (length m) (w .extent mv),
-        le-leb (a + length (x .payload)) (objectOf v (x .cred) .size) (omega (arith, w .inside mv, i .first, i .second)),
-      ) refl
-  medium-by Look i n = refl
-  medium-by Raise i n = refl
-  medium-by (Create number size) i n =
-      let p : start ≡ placement v size = placed ∙ rw (i .number, i .second) refl in
-      rw (← q-is, p, le-leb (quarterStart v (x .cred) + placementStart v size + size) (length m) (w .cleared number size n)) refl
-  medium-by Delete i n = refl
-  medium-by (SetKey target) i n = refl
-
-  pub medium-is : mediumAfter (q .operation) s (x .payload) m ≡ perform (operationOf x) v x m .medium
-  medium-is = medium-by (q .operation) asked name-is ∙ ap (λ (o : Operation). perform o v x m .medium) (sym name-is)
-
-  -- ---- the result
   -- the next version is one more: row 21 refused the last
-  next-is : givesVersion (x .req) ≡ true → nextVersionOf (P .last) ≡ P .last + 1
-  next-is h = rw (ne-eqb (P .last) 4294967295 (w .last h)) refl
+  next-is : givesVersion (x .req) ≡ true → nextVersionOf (s .partition .last) ≡ nextVersion (s .partition)
+  unfolding row21
+  next-is h = rw (ne-eqb (s .partition .last) lastVersion (eqb-false (s .partition .last) lastVersion
+      (and-rest-false (givesVersion (x .req)) (s .partition .last is lastVersion) h (clear21 g)))) refl
 
-  put-number : (r : List ℕ) (i v : ℕ) → i + 4 ≤ length r → numberPut r i 4 v ≡ splice r i (bigEndian 4 v)
-  put-number r i v h = rw (le-leb (i + 4) (length r) h) refl
+  -- where the grant works: `found` is the object that the credential names, `place` a new extent's
+  module _ {found : Lookup} (named : found ≡ lookupIn (s .partition .objects) (x .cred .object)) {place : Option ℕ}
+      (placed : place ≡ cond (x .req .operation isnt 5) none (placement s (x .req .B))) where
+    abbrev context : GrantContext
+    context = grantContext M (s .partition) (x .cred) found place
 
-  result-by : (o : Operation) → Is o → (r : List ℕ) → 8 + resultLength (x .req) ≤ length r
-      → resultPut o s m r ≡ splice r 8 (perform o v x m .result)
-  unfolding perform grantContext extentStart objectOf namedObject presentVersion
-  result-by (Read a b) i r h =
-      let mv : isTransfer (x .req) ≡ true = rw (i .number) refl in
-      let n : resultLength (x .req) ≡ x .req .B = rw (i .number) refl in
-      rw (
-        ← q-is,
-        le-leb (extentStart v (x .cred) + a + b) (length m) (omega (arith, w .extent mv, w .inside mv, i .first, i .second)),
-        le-leb (8 + b) (length r) (omega (arith, n, i .second)),
-      ) refl
-  result-by (Write a b) i r h = sym (splice-none r)
-  result-by Look i r h =
-      let n : resultLength (x .req) ≡ 8 = rw (i .number) refl in
-      let a : List ℕ = bigEndian 4 (s .looksize) in
-      let b : List ℕ = bigEndian 4 (s .version) in
-      let la : length a ≡ 4 = length-bigEndian 4 (s .looksize) in
-      let lb : length b ≡ 4 = length-bigEndian 4 (s .version) in
-      let l : length (splice r 8 a) ≡ length r = length-splice r a 8 (omega arith) in
-      ap (λ (l : List ℕ). numberPut l 12 4 (s .version)) (put-number r 8 (s .looksize) (omega arith))
-      ∙ put-number (splice r 8 a) 12 (s .version) (omega arith)
-      ∙ splice-after-size r a b 8 12 (omega arith) (omega arith)
-      ∙ rw (← q-is) refl
-  result-by Raise i r h =
-      let n : resultLength (x .req) ≡ 4 = rw (i .number) refl in
-      put-number r 8 (nextVersionOf (P .last)) (omega arith)
-      ∙ ap (λ (v : ℕ). splice r 8 (bigEndian 4 v)) (next-is (rw (i .number) refl))
-  result-by (Create number size) i r h =
-      let n : resultLength (x .req) ≡ 4 = rw (i .number) refl in
-      put-number r 8 (nextVersionOf (P .last)) (omega arith)
-      ∙ ap (λ (v : ℕ). splice r 8 (bigEndian 4 v)) (next-is (rw (i .number) refl))
-  result-by Delete i r h = sym (splice-none r)
-  result-by (SetKey target) i r h = sym (splice-none r)
+    pub context-fits : ContextFits (operationOf x) s (x .cred) context
+    unfolding grantContext lookupIn extentStart objectOf namedObject presentVersion placementStart
+    context-fits = record {
+      quarter = rw (← q-is) refl;
+      start = rw (← q-is, named) refl;
+      size = rw named refl;
+      looksize = rw (← q-is, named) refl;
+      version = rw named refl;
+      raised = λ o. next-is (rw (asks-for (x .req) Raise o) refl);
+      created = λ a b o. next-is (rw (asks-for (x .req) (Create a b) o .0) refl);
+      placed = λ a b o.
+          let k = asks-for (x .req) (Create a b) o in
+          let e : place ≡ placement s b = placed ∙ rw (k .0, k .2) refl in
+          ap (λ (p : Option ℕ). Option·getD p 0) e;
+    }
 
-  abbrev res : List ℕ
-  res = perform (operationOf x) v x m .result
-
-  result-is : (r : List ℕ) → 8 + resultLength (x .req) ≤ length r → resultPut (q .operation) s m r ≡ splice r 8 res
-  result-is r h = result-by (q .operation) asked r h
-      ∙ ap (λ (o : Operation). splice r 8 (perform o v x m .result)) (sym name-is)
-
-  in-seven : (o : Operation) → (1 ≤ operationNumber o) × (operationNumber o ≤ 7)
-  in-seven (Read a b) = (omega arith, omega arith)
-  in-seven (Write a b) = (omega arith, omega arith)
-  in-seven Look = (omega arith, omega arith)
-  in-seven Raise = (omega arith, omega arith)
-  in-seven (Create number size) = (omega arith, omega arith)
-  in-seven Delete = (omega arith, omega arith)
-  in-seven (SetKey target) = (omega arith, omega arith)
-
-  result-long : length res ≡ resultLength (x .req)
-  result-long =
-      let h = in-seven (q .operation) in
-      result-length v x m (omega (arith, number-is, h .0)) (omega (arith, number-is, h .1)) (λ a b o.
-      let k = asks-for (x .req) (Read a b) o in
-      let mv : isTransfer (x .req) ≡ true = rw (k .0) refl in
-      length-part m (extentStart v (x .cred) + a) b (omega (arith, w .extent mv, w .inside mv, k .1, k .2)))
-
-  -- ---- the reply
-  abbrev H : List ℕ
-  H = head (x .req) (resultLength (x .req))
-
-  head-long : length H ≡ 8
-  unfolding head bigEndian
-  head-long = refl
-
-  abbrev front : List ℕ
-  front = splice space 0 (H ++ res)
-
-  room-front : 8 + resultLength (x .req) ≤ length space
-  unfolding replyLength
-  room-front = omega (arith, w .reply)
-
-  front-is : resultReply (x .req) (q .operation) s m space ≡ front
-  front-is =
-      let l : length (splice space 0 H) ≡ length space = length-splice space H 0 (omega (arith, head-long, room-front)) in
-      ap (λ (r : List ℕ). resultPut (q .operation) s m r)
-      (rw (le-leb (0 + length H) (length space) (omega (arith, head-long, room-front))) refl)
-      ∙ result-is (splice space 0 H) (omega (arith, room-front))
-      ∙ splice-after-size space H res 0 8 (omega (arith, head-long)) (omega (arith, result-long, room-front))
-
-  headed-is : headed (x .req) res ≡ H ++ res
-  unfolding headed
-  headed-is = ap (λ (n : ℕ). head (x .req) n ++ res) result-long
-
-  abbrev key : List ℕ
-  key = credentialKey (v .keys) x
-
-  reply-by : (b : Bool) → (x .req .level is 2) ≡ b
-      → cond b (sealPut key (x .credential ++ x .request) (8 + resultLength (x .req)) front) front
-      ≡ splice space 0 (H ++ res ++ cond b (hmac key (x .credential ++ (x .request ++ (H ++ res)))) [])
-  unfolding replyLength
-  reply-by false h = ap (splice space 0) (sym (append-nil (H ++ res)))
-  reply-by true h =
-      let n : ℕ = 8 + resultLength (x .req) in
-      let lf : length (H ++ res) ≡ n = length-append H res ∙ omega (arith, head-long, result-long) in
-      let r : n + 32 ≤ length space = (rw h at (w .reply)) in
-      let l : length front ≡ length space = length-splice space (H ++ res) 0 (omega arith) in
-      let D : List ℕ = hmac key (x .credential ++ (x .request ++ (H ++ res))) in
-      let g : hmac key (x .credential ++ x .request ++ take n front) ≡ D =
-      ap (λ (y : List ℕ). hmac key (x .credential ++ x .request ++ y)) (splice-front space (H ++ res) n lf)
-      ∙ ap (hmac key) (append-assoc (x .credential) (x .request) (H ++ res)) in
-      rw (le-leb (n + 32) (length front) (omega arith), g)
-      (splice-after-size space (H ++ res) D 0 n (omega arith)
-      (omega (arith, length-hmac key (x .credential ++ (x .request ++ (H ++ res))))))
-
-  pub reply-is : replyPut key (x .credential ++ x .request) (numbersOf q) (q .operation) s m space
-      ≡ splice space 0 (reply (v .keys) x res)
-  unfolding reply sealed
-  reply-is =
-      rw (e, front-is, headed-is) (reply-by (x .req .level is 2) refl)
-
-  pub reply-long : replyLength (numbersOf q) ≡ replyLength (x .req)
-  reply-long = ap replyLength e
-
-  -- ---- the keys
-  keys-by : (o : Operation) → keysPut o (x .cred .slot) (x .cred .partition) (signing (v .keys) x)
-      (x .request ++ x .payload) (v .keys) ≡ perform o v x m .scope .keys
-  unfolding perform keySet newKey
-  keys-by (Read a b) = refl
-  keys-by (Write a b) = refl
-  keys-by Look = refl
-  keys-by Raise = refl
-  keys-by (Create number size) = refl
-  keys-by Delete = refl
-  keys-by (SetKey target) = refl
-
-  pub keys-is : keysPut (q .operation) (x .cred .slot) (x .cred .partition) (signing (v .keys) x)
-      (x .request ++ x .payload) (v .keys) ≡ perform (operationOf x) v x m .scope .keys
-  keys-is = keys-by (q .operation) ∙ ap (λ (o : Operation). perform o v x m .scope .keys) (sym name-is)
-
-  -- ---- the partition
-  partition-by : (o : Operation) → Is o → operationOf x ≡ o
-      → partitionAfter o (x .cred .object) (s .next) (s .place) P ≡ perform o v x m .scope .partition
-  unfolding perform grantContext placementStart raised raisedTo created createdTo
-  partition-by (Read a b) i n = refl
-  partition-by (Write a b) i n = refl
-  partition-by Look i n = refl
-  partition-by Raise i n = ap (λ (u : ℕ). raisedTo u (x .cred .object) P) (next-is (rw (i .number) refl))
-  partition-by (Create number size) i n =
-      let p : start ≡ placement v size = placed ∙ rw (i .number, i .second) refl in
-      rw (p, next-is (rw (i .number) refl), lt-ltb (length (P .objects)) 16 (w .objects number size n)) refl
-  partition-by Delete i n = refl
-  partition-by (SetKey target) i n = refl
-
-  pub partition-is : partitionAfter (q .operation) (x .cred .object) (s .next) (s .place) P
-      ≡ perform (operationOf x) v x m .scope .partition
-  partition-is = partition-by (q .operation) asked name-is
-      ∙ ap (λ (o : Operation). perform o v x m .scope .partition) (sym name-is)
+    pub change-fits : ChangeFits (operationOf x) s (context .nextversion) (context .newstart)
+    change-fits = record {
+      raised = context-fits .raised;
+      created = context-fits .created;
+      placed = context-fits .placed;
+      room = λ a b o. granting .creates a b o .room;
+    }

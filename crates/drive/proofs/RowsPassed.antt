@@ -1,27 +1,17 @@
--- The table of rows in two parts: rows 1 to 7, and from row 8 on; and what a frame that no row refuses has room for.
-use mathlib.Core.Path.{_≡_, refl, ap, _∙_}
+-- The table of rows in two parts: rows 1 to 7, and from row 8 on.
+use mathlib.Core.Path.{_≡_, refl, _∙_}
 use mathlib.Core.Bool.{Bool, true, false, cond}
 use mathlib.Core.List.{List, [], _∷_, _++_}
-use Prim.Native.Nat.{ℕ, _+_, _*_, _≤_}
-use native.Mathlib.Omega.{arith}
-use lib.ListN.{length}
-use borrow.Author.Tests.{eqb-false, ltb-false, le-leb, not-true}
-use Rattle.lemmas.specs.Tests.{_is_, _isnt_, and-l, and-r, and-rest-false}
+use Prim.Native.Nat.{ℕ}
+use borrow.Author.Tests.{eqb-false, not-true}
+use Rattle.lemmas.specs.Tests.{_is_, _isnt_, and-l, and-r}
 use Rattle.lemmas.specs.Lists.{every}
 use Rattle.lemmas.specs.RowTable.{Row, line, firstRow, numbered, row-next}
-use Rattle.rules.specs.declared.Object.{Object}
-use Rattle.rules.specs.Frame.{Fields, fields, operationOf}
-use Rattle.rules.specs.Drive.{Drive, quarter, mostEntries, refresh}
-use Rattle.rules.specs.Scope.{Scope, driveScope}
-use Rattle.rules.specs.Operations.{extentStart, replyLength}
-use Rattle.rules.specs.Rows.{row1, givesVersion, row21, row22, frameRows, driveRows, rows}
-use Rattle.rules.proofs.Holds.{quarter-in, Grant}
-use Rattle.rules.proofs.Sound.{SoundScope}
-use Rattle.rules.proofs.Memories.{room-left}
-use Rattle.rules.proofs.RepliesBack.{sound-named}
-use Rattle.rules.proofs.Clear.{Clear, clear21, clear22, clear23, in-four, in-object, grant}
+use Rattle.rules.specs.Frame.{fields}
+use Rattle.rules.specs.Drive.{Drive, refresh}
+use Rattle.rules.specs.Scope.{driveScope}
+use Rattle.rules.specs.Rows.{row1, frameRows, driveRows, rows}
 use Rattle.wire.specs.Parse.{frameRow}
-use Rattle.drive.specs.Grant.{GrantFits}
 
 -- ---- one table after another
 pub rows-passed : (rs bs : List Row) → numbered rs ≡ true → firstRow rs ≡ 0 → firstRow (rs ++ bs) ≡ firstRow bs
@@ -63,33 +53,3 @@ module _ (d : Drive) (m f : List ℕ) (clock : ℕ) (space : List ℕ) (ready : 
   pub by-frame : (frameRow f ≡ 0 → ⊥) → firstRow (rows d m f clock space) ≡ frameRow f
   unfolding frameRow
   by-frame z = skip ∙ rows-met (frameRows f (fields f)) later z
-
--- ---- what a frame that no row refuses has room for
-module _ {f : List ℕ} {s : Scope Object} {space : List ℕ} (g : Clear f s space) (sound-s : SoundScope s)
-    (short : length (s .memory) ≤ mostEntries) (m : List ℕ) (q-is : s .quarter ≡ quarter (length m)) where
-  abbrev x : Fields
-  x = fields f
-
-  abbrev p : ℕ
-  p = x .cred .partition
-
-  in-medium : p * s .quarter + s .quarter ≤ length m
-  in-medium = rw q-is (quarter-in (length m) p (in-four g))
-
-  pub room : GrantFits s m x space
-  unfolding row21 row22 extentStart
-  room = record {
-    four = in-four g;
-    extent = λ h. omega (arith, sound-named g sound-s h .inside, in-medium);
-    inside = in-object g;
-    payload = λ a b o. granting .writes a b o .len;
-    cleared = λ a b o. omega (arith, granting .creates a b o .place .inside, in-medium);
-    objects = λ a b o. granting .creates a b o .room;
-    last = λ h k. eqb-false (s .partition .last) 4294967295
-        (and-rest-false (givesVersion (x .req)) (s .partition .last is 4294967295) h (clear21 g)) k;
-    entries = room-left s (clear22 g) (le-leb (length (s .memory)) 64 short);
-    reply = ltb-false (length space) (replyLength (x .req)) (clear23 g);
-  }
-    where
-      granting : Grant (operationOf x) s x
-      granting = grant g sound-s

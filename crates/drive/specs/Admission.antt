@@ -1,18 +1,21 @@
--- What the code has of the Scope of a frame: the facts, the keys' bytes, the partition's table, and of the memory two facts.
+-- What the code has of the Scope of a frame: the facts (of the memory two), the keys' bytes and the partition's table; and
+-- what `admit` asks and promises of them.
 -- x: the frame's fields. s: the facts. ks: the keys. t: the partition's table. l: the memory's entries.
 -- m: the medium. f: the frame.
 use mathlib.Core.Path.{_≡_}
 use mathlib.Core.Bool.{true, cond}
-use mathlib.Core.Option.{some}
-use mathlib.Core.List.{List, _++_}
-use Prim.Native.Nat.{ℕ, _≤_}
+use mathlib.Core.Option.{Option, some, Option·getD}
+use mathlib.Core.List.{List}
+use Prim.Native.Nat.{ℕ, _*_, _≤_}
 use lib.ListN.{length}
 use Rattle.lemmas.specs.Tests.{_is_}
 use Rattle.lemmas.specs.RowTable.{firstRow}
 use Rattle.rules.specs.declared.Credential.{Credential}
 use Rattle.rules.specs.declared.Entry.{Entry}
 use Rattle.rules.specs.declared.Object.{Object}
+use Rattle.rules.specs.declared.Operation.{Operation}
 use Rattle.rules.specs.Frame.{Fields, fields}
+use Rattle.rules.specs.Drive as rules
 use Rattle.rules.specs.Drive.{quarter, largestMedium, mostEntries, soundPartition}
 use Rattle.rules.specs.Scope.{Scope}
 use Rattle.rules.specs.Operations.{keyIn, signing}
@@ -22,10 +25,13 @@ use Rattle.wire.specs.declared.ParsedRequest.{ParsedRequest}
 use Rattle.wire.specs.declared.Parsed.the-variants.{Fields as Parsed·Fields}
 use Rattle.wire.specs.Parse.{answerOf, frameAnswer, numbersOf}
 use Rattle.keyring.specs.Keys.{keysIn}
-use Rattle.set_key.specs.Keys.{keysPut}
+use Rattle.state.specs.declared.Lookup.{Lookup}
 use Rattle.state.specs.Table.{tableSize, partitionIn}
-use Rattle.partition.specs.Partition.{partitionAfter}
-use Rattle.drive.specs.declared.ScopeFacts.{ScopeFacts}
+use Rattle.judge.specs.declared.ScopeFacts.{ScopeFacts}
+use Rattle.judge.specs.Judge.{presentVersionIn}
+use Rattle.effect.specs.declared.GrantContext.{GrantContext}
+use Rattle.effect.specs.Effect.{nextVersionOf}
+use Rattle.partition.specs.Applied.{ChangeFits}
 use Rattle.drive.specs.declared.Outcome.{Outcome}
 
 -- the Scope that they make
@@ -44,36 +50,43 @@ scopeAnswer s m x space =
     let row = firstRow (driveRows s x space) in
     cond (row is 0) (granted s m x space) (refused row s m space)
 
--- a facts that is sound, with its keys, its table, the entries of its memory, its medium and a parsed frame
-pub record AdmitRequires (s : ScopeFacts) (ks t : List ℕ) (l : List Entry) (m f : List ℕ) (c : Credential) (q : ParsedRequest) : Type 0
+-- where a grant works, of a medium of so many bytes: `found` is the object that the credential names, `place` a new extent's
+unfoldable pub grantContext : ℕ → rules.Partition Object → Credential → Lookup → Option ℕ → GrantContext
+grantContext size p c found place = record {
+  quarterstart = c .partition * quarter size;
+  start = found .object .start;
+  size = found .object .size;
+  newstart = Option·getD place 0;
+  looksize = cond (c .object is 0) (quarter size) (found .object .size);
+  version = presentVersionIn (p .version) (c .object) found;
+  nextversion = nextVersionOf (p .last);
+}
+
+-- the parse of the frame f gave these fields
+pub record ParsedTo (f : List ℕ) (c : Credential) (request : ParsedRequest) : Type 0 where
+  pub answer : answerOf (Parsed·Fields c request) ≡ frameAnswer f
+
+-- what `admit` asks: the facts, the keys and a sound table, with the entries of a memory, of a medium and a parsed frame
+pub record AdmitRequires (s : ScopeFacts) (ks t : List ℕ) (l : List Entry) (m f : List ℕ) (c : Credential)
+    (request : ParsedRequest) : Type 0 where
+  pub parsed : ParsedTo f c request
+  pub size : length m ≡ s .size
+  pub small : s .size ≤ largestMedium
+  pub sound : soundPartition (quarter (s .size)) (partitionIn t) ≡ true
+  pub short : length l ≤ mostEntries
+  pub replayed : row12 (scopeFrom s ks t l) c (numbersOf request) ≡ s .replayed
+  pub held : length l ≡ s .held
+  pub keys : length ks ≡ 462
+  pub table : length t ≡ tableSize
+
+-- an outcome is the rules' answer to the frame f, of the scope s, the medium m and the reply space lent; and at a grant the key in
+-- the frame's slot is set, and the next version and the new extent's start are those that operation o puts into the table
+pub record OutcomeMet (s : Scope Object) (m f lent : List ℕ) (o : Operation) (r : Outcome) (after replied : List ℕ) : Type 0
   where
-    pub parsed : answerOf (Parsed·Fields c q) ≡ frameAnswer f
-    pub size : length m ≡ s .size
-    pub small : s .size ≤ largestMedium
-    pub sound : soundPartition (quarter (s .size)) (partitionIn t) ≡ true
-    pub short : length l ≤ mostEntries
-    pub replayed : row12 (scopeFrom s ks t l) c (numbersOf q) ≡ s .replayed
-    pub held : length l ≡ s .held
-    pub keys : length ks ≡ 462
-    pub table : length t ≡ tableSize
-
--- the same, of some memory
-pub record AdmitRequiresSome (s : ScopeFacts) (ks t m f : List ℕ) (c : Credential) (q : ParsedRequest) : Type 0 where
-  pub memory : List Entry
-  pub ready : AdmitRequires s ks t memory m f c q
-
--- an outcome is the rules' answer a to the frame f: and of a grant the next version and the new extent's start are those
--- with which keys and partition become the answer's
-pub record OutcomeMet (a : Answer (Scope Object)) (ks t f : List ℕ) (q : ParsedRequest) (r : Outcome) (after replied : List ℕ)
-    : Type 0 where
-  pub row : r .row ≡ a .row
-  pub length : r .length ≡ a .length
-  pub medium : after ≡ a .medium
-  pub space : replied ≡ a .space
-  pub set : r .row ≡ 0
-      → keyIn (keysIn ks) (fields f .cred .partition) (fields f .cred .slot) ≡ some (signing (keysIn ks) (fields f))
-  pub keys : r .row ≡ 0
-      → keysPut (q .operation) (fields f .cred .slot) (fields f .cred .partition) (signing (keysIn ks) (fields f))
-      (fields f .request ++ fields f .payload) (keysIn ks) ≡ a .drive .keys
-  pub partition : r .row ≡ 0
-      → partitionAfter (q .operation) (fields f .cred .object) (r .next) (r .place) (partitionIn t) ≡ a .drive .partition
+    pub row : r .row ≡ scopeAnswer s m (fields f) lent .row
+    pub length : r .length ≡ scopeAnswer s m (fields f) lent .length
+    pub medium : after ≡ scopeAnswer s m (fields f) lent .medium
+    pub space : replied ≡ scopeAnswer s m (fields f) lent .space
+    pub set : r .row ≡ 0
+        → keyIn (s .keys) (fields f .cred .partition) (fields f .cred .slot) ≡ some (signing (s .keys) (fields f))
+    pub fits : r .row ≡ 0 → ChangeFits o s (r .nextversion) (r .newstart)

@@ -1,7 +1,6 @@
 -- The record as the rules see it, the promises of format and gate, and the customer's demands over these promises.
 pub mod View
 pub mod Admission
-pub mod Grant
 pub mod Met
 pub mod Chain
 pub mod ChainStory

@@ -11,23 +11,32 @@ ghost use Rattle.rules.specs.declared.Entry.{Entry};
 ghost use Rattle.digest.specs.Hmac.{hmac};
 ghost use Rattle.digest.specs.Keyed.{Keyed};
 ghost use Rattle.rules.specs.Drive.{largestMedium};
-ghost use Rattle.rules.specs.Frame.{fields, covered};
-ghost use Rattle.rules.specs.Gate.{granted};
+ghost use Rattle.rules.specs.Frame.{credentialSize, dataStart, fields, covered};
+ghost use Rattle.rules.specs.Rows.{leastFrame};
 ghost use Rattle.placing.specs.Placing.{placeOption};
 ghost use Rattle.state.specs.Table.{tableSize, partitionIn};
-ghost use Rattle.keyring.specs.Keys.{keysIn};
 ghost use Rattle.set_key.specs.Keys.{keysAfter};
-ghost use Rattle.drive.specs.Admission.{scopeFrom, scopeAnswer, AdmitRequires, AdmitRequiresSome, OutcomeMet};
-ghost use Rattle.drive.specs.Grant.{grantContext, GrantRequires, GrantRequiresSome};
+ghost use Rattle.effect.specs.Effect.{mediumAfter};
+ghost use Rattle.sealed_reply.specs.Reply.{replyPut};
+ghost use Rattle.drive.specs.Admission.{scopeFrom, grantContext, AdmitRequires, OutcomeMet};
 use super::Outcome;
-use super::ScopeFacts;
 use digest::mac;
 use digest::mac::Mac;
 use effect::GrantContext;
+use fields::CREDENTIAL_SIZE;
+use fields::DATA_START;
+use fields::DIGEST_SIZE;
+use judge::ScopeFacts;
 use lemmas::pick;
 use placing::Place;
 use rules::Credential;
+use rules::Operation;
+use rules::Request;
+use state::Lookup;
 use wire::ParsedRequest;
+
+// How long a key is.
+const KEY: usize = 32;
 
 // Which of the five memories: one for each partition (slots 0 to 2), a fifth for slots 3 and 4.
 pub fn memory_of(c: Credential) -> usize
@@ -38,11 +47,11 @@ pub fn memory_of(c: Credential) -> usize
 
 // The keyed hash that has taken credential and request under the credential key, made from the key in the slot.
 fn records_mac(key: &[u8], frame: &[u8]) -> Mac
-    requires { ⌜ 64 ≤ length (now frame) ⌝ }
-    ensures { λ r. ⌜ Keyed r (hmac (now (key .entry)) (take 36 (now (frame .entry)))) (take 64 (now (frame .entry))) ⌝ }
+    requires { ⌜ dataStart ≤ length (now frame) ⌝ }
+    ensures { λ r. ⌜ Keyed r (hmac (now (key .entry)) (take credentialSize (now (frame .entry)))) (take dataStart (now (frame .entry))) ⌝ }
 {
-    let secret = mac::of(key, &frame[..36]);
-    mac::absorb(mac::start(&secret), &frame[..64])
+    let secret = mac::of(key, &frame[..CREDENTIAL_SIZE]);
+    mac::absorb(mac::start(&secret), &frame[..DATA_START])
 }
 
 // The digest that a frame must carry: over credential and request, and the data too from level 1.
@@ -57,90 +66,85 @@ fn frame_digest(hash: Mac, payload: &[u8], level: u8) -> [u8; 32]
 
 // Row 9: whether a frame carries the digest that it must.
 fn is_signed(hash: Mac, frame: &[u8], level: u8) -> bool
-    requires { ⌜ length (now frame) ≡ 96 + fields (now frame) .req .n ⌝ }
+    requires { ⌜ length (now frame) ≡ leastFrame + fields (now frame) .req .n ⌝ }
     ensures { λ r. ⌜ ((k : List ℕ) → Keyed hash k (fields (now (frame .entry)) .credential ++ fields (now (frame .entry)) .request)
         → r ≡ same (fields (now (frame .entry)) .digest) (hmac k (covered level (fields (now (frame .entry)) .credential)
         (fields (now (frame .entry)) .request) (fields (now (frame .entry)) .payload)))) ⌝ }
 {
-    let end = frame.len() - 32;
-    let right = frame_digest(hash, &frame[64..end], level);
+    let end = frame.len() - DIGEST_SIZE;
+    let right = frame_digest(hash, &frame[DATA_START..end], level);
     octets::same(&frame[end..], &right)
 }
 
 // Where a new extent starts in its quarter; 0 where there is none.
-fn start_of(p: Place) -> u32
-    ensures { λ r. ⌜ r ≡ Option·getD (placeOption p) 0 ⌝ }
+fn start_of(place: Place) -> u32
+    ensures { λ r. ⌜ r ≡ Option·getD (placeOption place) 0 ⌝ }
 {
-    match p {
+    match place {
         Place::At(start) => start,
         Place::Nowhere => 0,
     }
 }
 
-// Where a grant works.
-fn grant_context(size: usize, table: &[u32], c: Credential, place: Place) -> GrantContext
+// Where a grant works: `found` is the object that the credential names, `place` a new extent's.
+fn grant_context(
+    size: usize,
+    table: &[u32],
+    c: Credential,
+    found: Lookup,
+    place: Place,
+) -> GrantContext
     requires { ⌜ (size ≤ largestMedium) × (c .partition < 4) × (length (now table) ≡ tableSize) ⌝ }
-    ensures { λ r. ⌜ r ≡ grantContext size (partitionIn (now (table .entry))) c (placeOption place) ⌝ }
+    ensures { λ r. ⌜ r ≡ grantContext size (partitionIn (now (table .entry))) c found (placeOption place) ⌝ }
 {
     let quarter = (size / 4) as u32;
-    let t = state::look_up(table, c.object);
-    let o = t.object;
+    let o = found.object;
     GrantContext {
-        base: c.partition as u32 * quarter,
+        quarterstart: c.partition as u32 * quarter,
         start: o.start,
         size: o.size,
-        place: start_of(place),
+        newstart: start_of(place),
         looksize: pick(c.object == 0, quarter, o.size),
-        version: judge::present_version(table[0], c.object, t),
-        next: effect::next_version(table[1]),
+        version: judge::present_version(table[0], c.object, found),
+        nextversion: effect::next_version(table[1]),
     }
 }
 
-// A grant: the reply and the medium. Keys, table and memory are left to the caller.
+// What a grant writes: the reply to the request of numbers `r`, whose result has n bytes; and the medium.
 fn grant(
-    facts: ScopeFacts,
     hash: Mac,
-    keys: &[u8],
-    table: &[u32],
     medium: &mut [u8],
     frame: &[u8],
     reply: &mut [u8],
-    c: Credential,
-    q: ParsedRequest,
-    place: Place,
-) -> Outcome
-    requires { ⌜ GrantRequiresSome facts (now keys) (now table) hash (now medium) (now frame) (now reply) c q (placeOption place) ⌝ }
-    ensures { λ r. ⌜ ((l : List Entry) → GrantRequires facts (now (keys .entry)) (now (table .entry)) l hash (now (medium .entry)) (now (frame .entry)) (now (reply .entry)) c q (placeOption place)
-        → OutcomeMet (granted (scopeFrom facts (now (keys .entry)) (now (table .entry)) l) (now (medium .entry)) (fields (now (frame .entry))) (now (reply .entry)))
-        (now (keys .entry)) (now (table .entry)) (now (frame .entry)) q r (now (medium .exit)) (now (reply .exit))) ⌝ }
+    r: Request,
+    n: u32,
+    o: Operation,
+    context: GrantContext,
+)
+    requires { ⌜ length (now frame) ≡ leastFrame + fields (now frame) .req .n ⌝ }
+    ensures { λ _. ⌜ (now (medium .exit) ≡ mediumAfter o context (fields (now (frame .entry)) .payload) (now (medium .entry)))
+        × ((k taken : List ℕ) → Keyed hash k taken
+        → now (reply .exit) ≡ replyPut k taken r n o context (now (medium .entry)) (now (reply .entry))) ⌝ }
 {
-    let r = wire::numbers(q);
-    let o = q.operation;
-    let s = grant_context(facts.size, table, c, place);
-    let end = frame.len() - 32;
-    sealed_reply::put_reply(reply, medium, hash, r, o, s);
-    effect::update_medium(medium, &frame[64..end], o, s);
-    Outcome {
-        row: 0,
-        length: reply::reply_length(r) as usize,
-        next: s.next,
-        place: s.place,
-    }
+    let end = frame.len() - DIGEST_SIZE;
+    sealed_reply::put_reply(reply, medium, hash, r, n, o, context);
+    effect::update_medium(medium, &frame[DATA_START..end], o, context);
 }
 
 // A refusal: nothing changes.
 fn refusal(row: u32) -> Outcome
-    ensures { λ r. ⌜ r ≡ record { row = row; length = 0; next = 0; place = 0 } ⌝ }
+    ensures { λ r. ⌜ r ≡ record { row = row; length = 0; nextversion = 0; newstart = 0 } ⌝ }
 {
     Outcome {
         row,
         length: 0,
-        next: 0,
-        place: 0,
+        nextversion: 0,
+        newstart: 0,
     }
 }
 
-// Rows 8 to 23, or the grant. No digest is computed for a frame that row 8 refuses.
+// Rows 8 to 23, or the grant: the reply and the medium; keys, table and memory are left to the caller. No digest is computed
+// for a frame that row 8 refuses.
 pub fn admit(
     facts: ScopeFacts,
     keys: &[u8],
@@ -149,47 +153,56 @@ pub fn admit(
     frame: &[u8],
     reply: &mut [u8],
     c: Credential,
-    q: ParsedRequest,
+    request: ParsedRequest,
 ) -> Outcome
-    requires { ⌜ AdmitRequiresSome facts (now keys) (now table) (now medium) (now frame) c q ⌝ }
-    ensures { λ r. ⌜ ((l : List Entry) → AdmitRequires facts (now (keys .entry)) (now (table .entry)) l (now (medium .entry)) (now (frame .entry)) c q
-        → OutcomeMet (scopeAnswer (scopeFrom facts (now (keys .entry)) (now (table .entry)) l) (now (medium .entry)) (fields (now (frame .entry))) (now (reply .entry)))
-        (now (keys .entry)) (now (table .entry)) (now (frame .entry)) q r (now (medium .exit)) (now (reply .exit))) ⌝ }
+    requires { ⌜ ((l : List Entry) × AdmitRequires facts (now keys) (now table) l (now medium) (now frame) c request) ⌝ }
+    ensures { λ r. ⌜ ((l : List Entry) → AdmitRequires facts (now (keys .entry)) (now (table .entry)) l (now (medium .entry)) (now (frame .entry)) c request
+        → OutcomeMet (scopeFrom facts (now (keys .entry)) (now (table .entry)) l) (now (medium .entry)) (now (frame .entry)) (now (reply .entry))
+        (request .operation) r (now (medium .exit)) (now (reply .exit))) ⌝ }
 {
     let j = keyring::key_index(c.slot, c.partition as usize);
     if !keyring::is_set(keys, j) {
         return refusal(8);
     }
-    let from = 32 * j;
-    let to = from + 32;
+    let from = KEY * j;
+    let to = from + KEY;
     let hash = records_mac(&keys[from..to], frame);
-    if !is_signed(hash, frame, q.level) {
+    if !is_signed(hash, frame, request.level) {
         return refusal(9);
     }
-    let place = judge::place_for(table, (facts.size / 4) as u32, wire::numbers(q));
-    let row = judge::judge(
-        facts.highwater,
-        table,
-        facts.replayed,
-        facts.held,
-        c,
-        q,
-        place,
-        reply.len(),
-    );
+    let o = request.operation;
+    let r = wire::numbers(request);
+    let n = reply::result_length(r);
+    let length = reply::length_with(r, n);
+    let found = state::look_up(table, c.object);
+    let place = judge::placement(table, (facts.size / 4) as u32, r);
+    let row = judge::judge(facts, table, c, o, r, found, place, length, reply.len());
     if row != 0 {
         return refusal(row);
     }
-    grant(facts, hash, keys, table, medium, frame, reply, c, q, place)
+    let context = grant_context(facts.size, table, c, found, place);
+    grant(hash, medium, frame, reply, r, n, o, context);
+    Outcome {
+        row: 0,
+        length: length as usize,
+        nextversion: context.nextversion,
+        newstart: context.newstart,
+    }
 }
 
 // The keys after a grant.
-pub fn change_keys(keys: &mut [u8], frame: &[u8], c: Credential, q: ParsedRequest)
-    requires { ⌜ length (now frame) ≡ 96 + fields (now frame) .req .n ⌝ }
-    ensures { λ _. ⌜ now (keys .exit) ≡ keysAfter (q .operation) (c .slot) (c .partition)
+pub fn change_keys(keys: &mut [u8], frame: &[u8], c: Credential, request: ParsedRequest)
+    requires { ⌜ length (now frame) ≡ leastFrame + fields (now frame) .req .n ⌝ }
+    ensures { λ _. ⌜ now (keys .exit) ≡ keysAfter (request .operation) (c .slot) (c .partition)
         (fields (now (frame .entry)) .request ++ fields (now (frame .entry)) .payload) (now (keys .entry)) ⌝ }
 {
-    let o = q.operation;
-    let end = frame.len() - 32;
-    set_key::apply(keys, o, c.slot, c.partition as usize, &frame[36..end]);
+    let o = request.operation;
+    let end = frame.len() - DIGEST_SIZE;
+    set_key::apply(
+        keys,
+        o,
+        c.slot,
+        c.partition as usize,
+        &frame[CREDENTIAL_SIZE..end],
+    );
 }

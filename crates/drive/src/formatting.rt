@@ -10,6 +10,12 @@ ghost use Rattle.keyring.specs.Keys.{keysIn};
 ghost use Rattle.state.specs.Table.{partitionView};
 ghost use Rattle.drive.specs.View.{view, tablesIn};
 use super::Drive;
+use super::ENTRIES;
+use super::KEYS;
+use super::LARGEST_MEDIUM;
+use super::MEMORIES;
+use super::TABLE;
+use super::TABLES;
 
 // Row 24, 25 or 26, or 0 where none applies: of the lengths of the medium and of the keys lent, and the first version.
 pub fn format_row(size: usize, first: u32, master: usize, key: usize) -> u32
@@ -17,28 +23,28 @@ pub fn format_row(size: usize, first: u32, master: usize, key: usize) -> u32
 {
     let r26 = lemmas::pick((master != 32) | (key != 32), 26, 0);
     let r25 = lemmas::pick(first == 0, 25, r26);
-    lemmas::pick(size > 16777216, 24, r25)
+    lemmas::pick(size > LARGEST_MEDIUM, 24, r25)
 }
 
 // The tables of four partitions that have nothing.
-fn unused_tables(first: u32) -> [u32; 268]
+fn unused_tables(first: u32) -> [u32; TABLES]
     ensures { λ r. ⌜ map partitionView (tablesIn 4 r) ≡ replicate 4 (emptyPartition first) ⌝ }
 {
-    let mut r = [0u32; 268];
+    let mut r = [0u32; TABLES];
     r[0] = first;
     r[1] = first;
-    r[67] = first;
-    r[68] = first;
-    r[134] = first;
-    r[135] = first;
-    r[201] = first;
-    r[202] = first;
+    r[TABLE] = first;
+    r[TABLE + 1] = first;
+    r[2 * TABLE] = first;
+    r[2 * TABLE + 1] = first;
+    r[3 * TABLE] = first;
+    r[3 * TABLE + 1] = first;
     r
 }
 
 // The drive of a medium of so many bytes with these keys: no object exists, each partition's version is the first, the mark
 // is 0.
-pub fn new_drive(size: usize, first: u32, keys: [u8; 462]) -> Drive
+pub fn new_drive(size: usize, first: u32, keys: [u8; KEYS]) -> Drive
     ensures { λ r. ⌜ view r ≡ newDrive size (record { highWater = 0; keys = keysIn keys; partitions = replicate 4 (emptyPartition first) }) ⌝ }
 {
     let tables = unused_tables(first);
@@ -47,10 +53,10 @@ pub fn new_drive(size: usize, first: u32, keys: [u8; 462]) -> Drive
         highwater: 0,
         keys,
         tables,
-        lengths: [0; 5],
-        slots: [0; 320],
-        holders: [0; 320],
-        times: [0; 320],
-        counts: [0; 320],
+        lengths: [0; MEMORIES],
+        slots: [0; ENTRIES],
+        holders: [0; ENTRIES],
+        times: [0; ENTRIES],
+        counts: [0; ENTRIES],
     }
 }

@@ -1,6 +1,7 @@
 // The drive of document 01: its record, format and the gate.
 ghost use mathlib.Core.Path.{_≡_};
 ghost use Rattle.drive.specs.Met.{callOf, FormatMet, GateMet};
+use judge::ScopeFacts;
 use wire::Parsed;
 
 mod admission;
@@ -8,21 +9,41 @@ mod formatting;
 mod replay;
 mod row1;
 
+// The sizes of the drive's arrays. The keys' bytes (`keyring`).
+const KEYS: usize = 462;
+
+// Four partitions, and the numbers of a partition's table (`state`).
+const PARTITIONS: usize = 4;
+
+const TABLE: usize = 67;
+
+const TABLES: usize = PARTITIONS * TABLE;
+
+// Five replay memories, and the entries that one has places for (`memory`).
+const MEMORIES: usize = 5;
+
+const PLACES: usize = 64;
+
+const ENTRIES: usize = MEMORIES * PLACES;
+
+// The longest medium.
+const LARGEST_MEDIUM: usize = 16777216;
+
 // Plain data, passed by value and returned. Nothing is asked of a record passed in: row 1 refuses one that is not sound.
-// `size` is the medium's length M, `highwater` document 01's mark. All else stands in arrays of numbers, which can be lent:
+// `size` is the medium's length M, `highwater` document 01's mark. Everything else is in arrays of numbers, which can be lent:
 // the keys as `keyring` has them; the partitions' tables, one after the other, as `state` has them; and the five replay
 // memories (0 to 3 are the partitions', 4 is that of slots 3 and 4): memory m has lengths[m] entries, in order of grant, their
 // numbers from place 64 × m on in the four arrays.
 pub struct Drive {
     pub size: usize,
     pub highwater: u64,
-    pub keys: [u8; 462],
-    pub tables: [u32; 268],
-    pub lengths: [usize; 5],
-    pub slots: [u8; 320],
-    pub holders: [u32; 320],
-    pub times: [u64; 320],
-    pub counts: [u32; 320],
+    pub keys: [u8; KEYS],
+    pub tables: [u32; TABLES],
+    pub lengths: [usize; MEMORIES],
+    pub slots: [u8; ENTRIES],
+    pub holders: [u32; ENTRIES],
+    pub times: [u64; ENTRIES],
+    pub counts: [u32; ENTRIES],
 }
 
 // Row 0 and the reply's length, or the row and 0; and the drive after the call.
@@ -46,21 +67,12 @@ struct Core {
     highwater: u64,
 }
 
-// What a frame can see of a drive beside keys and its own partition's table: M, the mark, and of its own replay memory
-// whether that holds its nonce, and how many entries.
-struct ScopeFacts {
-    size: usize,
-    highwater: u64,
-    replayed: bool,
-    held: usize,
-}
-
-// Row and reply length; and what a grant needs of its operation: the next version, a new extent's start.
+// Row and reply length; and what a grant puts into its partition's table: the next version, a new extent's start.
 struct Outcome {
     row: u32,
     length: usize,
-    next: u32,
-    place: u32,
+    nextversion: u32,
+    newstart: u32,
 }
 
 // Makes a medium a drive's: every byte becomes 0. Refused, the medium stays as it is, and the drive returned has nothing.
@@ -69,7 +81,7 @@ pub fn format(medium: &mut [u8], first: u32, master: &[u8], key: &[u8]) -> Forma
 {
     let row = formatting::format_row(medium.len(), first, master.len(), key.len());
     if row != 0 {
-        let drive = formatting::new_drive(0, 0, [0; 462]);
+        let drive = formatting::new_drive(0, 0, [0; KEYS]);
         return Formatted { row, drive };
     }
     let size = medium.len();
@@ -112,12 +124,12 @@ pub fn gate(drive: Drive, medium: &mut [u8], frame: &[u8], clock: u64, reply: &m
         mark,
     );
     let parsed = wire::parse(frame);
-    let Parsed::Fields(c, q) = parsed else {
+    let Parsed::Fields(c, request) = parsed else {
         core.row = wire::row_of(parsed);
         return answered(core, keys, tables, lengths, slots, holders, times, counts);
     };
     let k = admission::memory_of(c);
-    let nonce = judge::entry_of(c, wire::numbers(q));
+    let nonce = judge::entry_of(c, request);
     let replayed = replay::is_replayed(&lengths, &slots, &holders, &times, &counts, k, nonce);
     let held = lengths[k];
     let facts = ScopeFacts {
@@ -126,17 +138,32 @@ pub fn gate(drive: Drive, medium: &mut [u8], frame: &[u8], clock: u64, reply: &m
         replayed,
         held,
     };
-    let at = 67 * c.partition as usize;
-    let end = at + 67;
-    let out = admission::admit(facts, &keys, &tables[at..end], medium, frame, reply, c, q);
+    let at = TABLE * c.partition as usize;
+    let end = at + TABLE;
+    let out = admission::admit(
+        facts,
+        &keys,
+        &tables[at..end],
+        medium,
+        frame,
+        reply,
+        c,
+        request,
+    );
     core.row = out.row;
     core.length = out.length;
     if out.row != 0 {
         return answered(core, keys, tables, lengths, slots, holders, times, counts);
     }
-    admission::change_keys(&mut keys, frame, c, q);
-    let o = q.operation;
-    partition::apply(&mut tables[at..end], o, c.object, out.next, out.place);
+    admission::change_keys(&mut keys, frame, c, request);
+    let o = request.operation;
+    partition::apply(
+        &mut tables[at..end],
+        o,
+        c.object,
+        out.nextversion,
+        out.newstart,
+    );
     replay::enter(
         &mut lengths,
         &mut slots,
@@ -152,13 +179,13 @@ pub fn gate(drive: Drive, medium: &mut [u8], frame: &[u8], clock: u64, reply: &m
 // An answer, with the drive of these parts.
 fn answered(
     core: Core,
-    keys: [u8; 462],
-    tables: [u32; 268],
-    lengths: [usize; 5],
-    slots: [u8; 320],
-    holders: [u32; 320],
-    times: [u64; 320],
-    counts: [u32; 320],
+    keys: [u8; KEYS],
+    tables: [u32; TABLES],
+    lengths: [usize; MEMORIES],
+    slots: [u8; ENTRIES],
+    holders: [u32; ENTRIES],
+    times: [u64; ENTRIES],
+    counts: [u32; ENTRIES],
 ) -> Answer
     ensures { λ r. ⌜ r ≡ record {
       row = core .row;

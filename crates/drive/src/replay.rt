@@ -7,6 +7,8 @@ ghost use Rattle.lemmas.specs.Lists.{keep, some?, update};
 ghost use Rattle.rules.specs.declared.Entry.{Entry};
 ghost use Rattle.rules.specs.Drive.{lives, mostEntries, sameEntry};
 ghost use Rattle.drive.specs.View.{memoriesOf, MemoriesFit};
+use super::MEMORIES;
+use super::PLACES;
 use rules::Entry;
 
 // Drops the outlived entries of every memory.
@@ -24,8 +26,8 @@ pub fn drop_outlived(
         × MemoriesFit (now (lengths .exit)) (now (slots .exit)) (now (holders .exit)) (now (times .exit)) (now (counts .exit)) ⌝ }
 {
     let mut m = 0;
-    while m < 5 {
-        let start = 64 * m;
+    while m < MEMORIES {
+        let start = PLACES * m;
         let end = start + lengths[m];
         let left = memory::purge(
             &mut slots[start..end],
@@ -52,7 +54,7 @@ pub fn is_replayed(
     requires { ⌜ MemoriesFit (now lengths) (now slots) (now holders) (now times) (now counts) × (k < 5) ⌝ }
     ensures { λ r. ⌜ r ≡ some? (sameEntry nonce) (getD (memoriesOf (now (lengths .entry)) (now (slots .entry)) (now (holders .entry)) (now (times .entry)) (now (counts .entry))) k []) ⌝ }
 {
-    let start = 64 * k;
+    let start = PLACES * k;
     let end = start + lengths[k];
     memory::holds(
         &slots[start..end],
@@ -78,7 +80,7 @@ pub fn enter(
         ≡ update k (λ (old : List Entry). old ++ (nonce ∷ [])) (memoriesOf (now (lengths .entry)) (now (slots .entry)) (now (holders .entry)) (now (times .entry)) (now (counts .entry))) ⌝ }
 {
     let held = lengths[k];
-    let at = 64 * k + held;
+    let at = PLACES * k + held;
     slots[at] = nonce.slot;
     holders[at] = nonce.holder;
     times[at] = nonce.time;

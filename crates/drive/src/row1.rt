@@ -10,6 +10,11 @@ ghost use Rattle.lemmas.specs.Tests.{_is_};
 ghost use Rattle.rules.specs.Drive.{largestMedium, quarter as quarterOf, soundPartition};
 ghost use Rattle.state.specs.Table.{partitionView};
 ghost use Rattle.drive.specs.View.{tablesIn, objectsFit, entriesFit};
+use super::LARGEST_MEDIUM;
+use super::MEMORIES;
+use super::PARTITIONS;
+use super::PLACES;
+use super::TABLE;
 
 // Whether every partition is sound; and then no count passes its places.
 fn sound_tables(tables: &[u32], quarter: u32) -> bool
@@ -19,9 +24,9 @@ fn sound_tables(tables: &[u32], quarter: u32) -> bool
 {
     let mut r = true;
     let mut i = 0;
-    while i < 4 {
-        let at = 67 * i;
-        let end = at + 67;
+    while i < PARTITIONS {
+        let at = TABLE * i;
+        let end = at + TABLE;
         r = r & soundness::sound_table(&tables[at..end], quarter);
         i += 1;
     }
@@ -29,14 +34,14 @@ fn sound_tables(tables: &[u32], quarter: u32) -> bool
 }
 
 // Whether no memory has over 64 entries.
-fn short_memories(ls: &[usize]) -> bool
-    requires { ⌜ length (now ls) ≡ 5 ⌝ }
-    ensures { λ r. ⌜ r ≡ every entriesFit (now (ls .entry)) ⌝ }
+fn short_memories(lengths: &[usize]) -> bool
+    requires { ⌜ length (now lengths) ≡ 5 ⌝ }
+    ensures { λ r. ⌜ r ≡ every entriesFit (now (lengths .entry)) ⌝ }
 {
     let mut r = true;
     let mut i = 0;
-    while i < 5 {
-        r = r & (ls[i] <= 64);
+    while i < MEMORIES {
+        r = r & (lengths[i] <= PLACES);
         i += 1;
     }
     r
@@ -49,7 +54,7 @@ pub fn passes_row1(size: usize, tables: &[u32], lengths: &[usize], n: usize) -> 
         && every entriesFit (now (lengths .entry)) && n is size))
         × (r ≡ true → every objectsFit (tablesIn 4 (now (tables .entry))) ≡ true) ⌝ }
 {
-    if size > 16777216 {
+    if size > LARGEST_MEDIUM {
         return false;
     }
     let quarter = (size / 4) as u32;

@@ -4,16 +4,17 @@ ghost use mathlib.Core.Path.{_≡_};
 ghost use Rattle.effect.specs.Effect.{mediumAfter, nextVersionOf};
 use rules::Operation;
 
-// Where an operation works. `base` is the partition's start on the medium; `start` and `size` are the object's extent in
-// it, `place` the start of a new one; `told` and `version` are what a look tells, `next` is the next version.
+// Where an operation works. `quarterstart` is where the partition starts on the medium; `start` and `size` are the object's
+// extent in it, `newstart` is the start of a new one; `looksize` and `version` are a look's result, `nextversion` is the next
+// version.
 pub struct GrantContext {
-    pub base: u32,
+    pub quarterstart: u32,
     pub start: u32,
     pub size: u32,
-    pub place: u32,
+    pub newstart: u32,
     pub looksize: u32,
     pub version: u32,
-    pub next: u32,
+    pub nextversion: u32,
 }
 
 // The next version; 0 after the last that there is, which row 21 refuses.
@@ -24,8 +25,8 @@ pub fn next_version(last: u32) -> u32
 }
 
 // A write's bytes go into its object's own part of the medium; a new extent is cleared.
-pub fn update_medium(medium: &mut [u8], bytes: &[u8], o: Operation, s: GrantContext)
-    ensures { λ _. ⌜ now (medium .exit) ≡ mediumAfter o s (now (bytes .entry)) (now (medium .entry)) ⌝ }
+pub fn update_medium(medium: &mut [u8], bytes: &[u8], o: Operation, context: GrantContext)
+    ensures { λ _. ⌜ now (medium .exit) ≡ mediumAfter o context (now (bytes .entry)) (now (medium .entry)) ⌝ }
 {
     match o {
         Operation::Read {
@@ -33,13 +34,14 @@ pub fn update_medium(medium: &mut [u8], bytes: &[u8], o: Operation, s: GrantCont
             length: _,
         } => {}
         Operation::Write { offset, length: _ } => {
-            let start = s.base as usize + s.start as usize;
-            extent::write_extent(medium, start, s.size as usize, offset as usize, bytes);
+            let start = context.quarterstart as usize + context.start as usize;
+            let size = context.size as usize;
+            extent::write_extent(medium, start, size, offset as usize, bytes);
         }
         Operation::Look => {}
         Operation::Raise => {}
         Operation::Create { number: _, size } => {
-            let start = s.base as usize + s.place as usize;
+            let start = context.quarterstart as usize + context.newstart as usize;
             extent::clear_extent(medium, start, size as usize);
         }
         Operation::Delete => {}

@@ -1,5 +1,5 @@
-// Rows 10 to 23 of document 01, judged of one partition's table and of what is known of one replay memory, which has no
-// outlived entry: whether it holds the frame's nonce (`replayed`), and how many entries it has (`held`). Every test is made whatever the others say; the lowest row that applies is the answer.
+// Rows 10 to 23 of document 01, judged of one partition's table and of what is known of the rest that a frame can see.
+// Every test is made whatever the others say; the lowest row that applies is the answer.
 ghost use mathlib.Core.Path.{_≡_};
 ghost use mathlib.Core.Bool.{not, cond};
 ghost use Prim.Native.Nat.{_-_};
@@ -9,7 +9,7 @@ ghost use Rattle.lemmas.specs.Lists.{missing};
 ghost use Rattle.rules.specs.declared.Object.{Object};
 ghost use Rattle.rules.specs.Frame.{entry};
 ghost use Rattle.rules.specs.Scope.{Scope};
-ghost use Rattle.rules.specs.Rows.{untimely, bit, outOfRange, scopeRows};
+ghost use Rattle.rules.specs.Rows.{untimely, bit, isTransfer, givesVersion, outOfRange, scopeRows};
 ghost use Rattle.state.specs.Table.{objectsIn, partitionIn};
 ghost use Rattle.placing.specs.Placing.{placeOption};
 ghost use Rattle.wire.specs.Parse.{operationNumber, numbersOf};
@@ -23,20 +23,29 @@ use rules::Request;
 use state::Lookup;
 use wire::ParsedRequest;
 
+// What a frame can see of a drive beside the keys and its own partition's table: M, the mark, and of its own replay memory,
+// from which outlived entries are gone, whether that holds the frame's nonce, and how many entries.
+pub struct ScopeFacts {
+    pub size: usize,
+    pub highwater: u64,
+    pub replayed: bool,
+    pub held: usize,
+}
+
 // The nonce of a frame: what a grant enters.
-pub fn entry_of(c: Credential, r: Request) -> Entry
-    ensures { λ e. ⌜ e ≡ entry c r ⌝ }
+pub fn entry_of(c: Credential, request: ParsedRequest) -> Entry
+    ensures { λ e. ⌜ e ≡ entry c (numbersOf request) ⌝ }
 {
     Entry {
         slot: c.slot,
         holder: c.holder,
-        time: r.time,
-        count: r.count,
+        time: request.time,
+        count: request.count,
     }
 }
 
 // Where a new object's extent starts; nowhere where none is asked for.
-pub fn place_for(table: &[u32], quarter: u32, r: Request) -> Place
+pub fn placement(table: &[u32], quarter: u32, r: Request) -> Place
     ensures { λ p. ⌜ placeOption p ≡ placementFor quarter (objectsIn (now (table .entry))) r ⌝ }
 {
     if r.operation != 5 {
@@ -46,10 +55,10 @@ pub fn place_for(table: &[u32], quarter: u32, r: Request) -> Place
 }
 
 // Whether there is no place for a new extent.
-fn is_nowhere(p: Place) -> bool
-    ensures { λ r. ⌜ r ≡ missing (placeOption p) ⌝ }
+fn is_missing(place: Place) -> bool
+    ensures { λ r. ⌜ r ≡ missing (placeOption place) ⌝ }
 {
-    match p {
+    match place {
         Place::At(_) => false,
         Place::Nowhere => true,
     }
@@ -87,28 +96,20 @@ fn has_right(o: Operation, rights: u16) -> bool
 }
 
 // Rows 10 to 13: expiry, time, nonce, right.
-fn time_row(
-    mark: u64,
-    replayed: bool,
-    c: Credential,
-    q: ParsedRequest,
-    r: Request,
-    rest: u32,
-) -> u32
-    ensures { λ x. ⌜ x ≡ timeRow mark replayed c (operationNumber (q .operation)) r rest ⌝ }
+fn time_row(facts: ScopeFacts, c: Credential, o: Operation, r: Request, rest: u32) -> u32
+    ensures { λ x. ⌜ x ≡ timeRow facts c (operationNumber o) r rest ⌝ }
 {
-    let o = q.operation;
     let x = pick(!has_right(o, c.rights), 13, rest);
-    let x = pick(replayed, 12, x);
-    let x = pick(is_untimely(mark, r.time), 11, x);
-    pick(c.expiry < mark, 10, x)
+    let x = pick(facts.replayed, 12, x);
+    let x = pick(is_untimely(facts.highwater, r.time), 11, x);
+    pick(c.expiry < facts.highwater, 10, x)
 }
 
 // The present version: object 0 means the partition.
-pub fn present_version(version: u32, number: u32, t: Lookup) -> u32
-    ensures { λ r. ⌜ r ≡ presentVersionIn version number t ⌝ }
+pub fn present_version(version: u32, number: u32, found: Lookup) -> u32
+    ensures { λ r. ⌜ r ≡ presentVersionIn version number found ⌝ }
 {
-    pick(number == 0, version, t.object.version)
+    pick(number == 0, version, found.object.version)
 }
 
 // A number of a table, 0 past its end.
@@ -121,6 +122,20 @@ fn number_at(table: &[u32], i: usize) -> u32
     table[i]
 }
 
+// Whether an operation reads or writes an object's bytes.
+fn is_transfer(r: Request) -> bool
+    ensures { λ x. ⌜ x ≡ isTransfer r ⌝ }
+{
+    (r.operation == 1) | (r.operation == 2)
+}
+
+// Whether an operation gives a new version.
+fn gives_version(r: Request) -> bool
+    ensures { λ x. ⌜ x ≡ givesVersion r ⌝ }
+{
+    (r.operation == 4) | (r.operation == 5)
+}
+
 // Row 16's test: not within the credential's range.
 fn is_out_of_range(first: u32, end: u32, from: u32, count: u32) -> bool
     ensures { λ r. ⌜ r ≡ outOfRange first end from count ⌝ }
@@ -129,56 +144,52 @@ fn is_out_of_range(first: u32, end: u32, from: u32, count: u32) -> bool
 }
 
 // Rows 14 to 17: object, version, range, size.
-fn object_row(c: Credential, r: Request, t: Lookup, version: u32, rest: u32) -> u32
-    ensures { λ x. ⌜ x ≡ objectRow c r t version rest ⌝ }
+fn object_row(c: Credential, r: Request, found: Lookup, version: u32, rest: u32) -> u32
+    ensures { λ x. ⌜ x ≡ objectRow c r found version rest ⌝ }
 {
-    let o = t.object;
-    let moves = (r.operation == 1) | (r.operation == 2);
-    let x = pick(
-        moves & ((o.size as u64) < r.A as u64 + r.B as u64),
-        17,
-        rest,
-    );
-    let x = pick(moves & is_out_of_range(c.first, c.end, r.A, r.B), 16, x);
+    let o = found.object;
+    let transfer = is_transfer(r);
+    let over = (o.size as u64) < r.A as u64 + r.B as u64;
+    let x = pick(transfer & over, 17, rest);
+    let x = pick(transfer & is_out_of_range(c.first, c.end, r.A, r.B), 16, x);
     let x = pick((r.operation < 7) & (c.version != version), 15, x);
-    pick((c.object != 0) & t.missing, 14, x)
+    pick((c.object != 0) & found.missing, 14, x)
 }
 
-// Rows 18 to 23: number, objects, place, versions, memory, reply space.
-fn room_row(table: &[u32], held: usize, r: Request, place: Place, space: usize) -> u32
-    ensures { λ x. ⌜ x ≡ roomRow (partitionIn (now (table .entry))) held r (placeOption place) space ⌝ }
+// Rows 18 to 23: number, objects, place, versions, memory, reply space; `length` is the reply's, `space` the room lent.
+fn room_row(table: &[u32], held: usize, r: Request, place: Place, length: u64, space: usize) -> u32
+    ensures { λ x. ⌜ x ≡ roomRow (partitionIn (now (table .entry))) held r (placeOption place) length space ⌝ }
 {
     let taken = state::look_up(table, r.A);
     let last = number_at(table, 1);
-    let gives = (r.operation == 4) | (r.operation == 5);
     let creates = r.operation == 5;
-    let x = pick((space as u64) < reply::reply_length(r), 23, 0);
+    let x = pick((space as u64) < length, 23, 0);
     let x = pick(held == 64, 22, x);
-    let x = pick(gives & (last == 4294967295), 21, x);
-    let x = pick(creates & is_nowhere(place), 20, x);
+    let x = pick(gives_version(r) & (last == 4294967295), 21, x);
+    let x = pick(creates & is_missing(place), 20, x);
     let x = pick(creates & (state::object_count(table) == 16), 19, x);
     pick(creates & !taken.missing, 18, x)
 }
 
-// The lowest of rows 10 to 23 that applies, or 0.
+// The lowest of rows 10 to 23 that applies, or 0. `o` and `r` are the operation and the request's numbers, `found` is the
+// object that the credential names, `place` a new extent's, `length` the reply's length, `space` the room lent for it.
 pub fn judge(
-    mark: u64,
+    facts: ScopeFacts,
     table: &[u32],
-    replayed: bool,
-    held: usize,
     c: Credential,
-    q: ParsedRequest,
+    o: Operation,
+    r: Request,
+    found: Lookup,
     place: Place,
+    length: u64,
     space: usize,
 ) -> u32
-    ensures { λ x. ⌜ ((s : Scope Object) → FactsHold s mark (partitionIn (now (table .entry))) replayed held c (numbersOf q) (placeOption place)
-        → x ≡ firstRow (scopeRows s c (numbersOf q) space)) ⌝ }
+    ensures { λ x. ⌜ ((s : Scope Object) → FactsHold s facts (partitionIn (now (table .entry))) c o r found (placeOption place) length
+        → x ≡ firstRow (scopeRows s c r space)) ⌝ }
 {
-    let r = wire::numbers(q);
-    let t = state::look_up(table, c.object);
     let version = number_at(table, 0);
-    let v = present_version(version, c.object, t);
-    let x = room_row(table, held, r, place, space);
-    let x = object_row(c, r, t, v, x);
-    time_row(mark, replayed, c, q, r, x)
+    let present = present_version(version, c.object, found);
+    let x = room_row(table, facts.held, r, place, length, space);
+    let x = object_row(c, r, found, present, x);
+    time_row(facts, c, o, r, x)
 }

@@ -1,6 +1,10 @@
 // A reply's head and lengths, as document 01 has them: "mark 4C 41, operation, level, result length (four bytes), result".
 ghost use mathlib.Core.Path.{_≡_};
-ghost use Rattle.rules.specs.Operations.{resultLength, replyLength, head};
+ghost use mathlib.Core.Bool.{cond};
+ghost use Prim.Native.Nat.{_+_};
+ghost use Rattle.lemmas.specs.Tests.{_is_};
+ghost use Rattle.rules.specs.Frame.{digestSize};
+ghost use Rattle.rules.specs.Operations.{resultLength, headSize, replyLength, head};
 use lemmas::pick;
 
 // The lengths of a reply's head and of its digest.
@@ -22,11 +26,18 @@ pub fn result_length(r: rules::Request) -> u32
     pick(r.operation == 1, r.B, n)
 }
 
-// How long the whole reply is: head, result, and at level 2 a digest.
+// How long a reply with a result of n bytes is: head, result, and at level 2 a digest.
+pub fn length_with(r: rules::Request, n: u32) -> u64
+    ensures { λ l. ⌜ l ≡ headSize + n + cond (r .level is 2) digestSize 0 ⌝ }
+{
+    HEAD_SIZE as u64 + n as u64 + pick(r.level == 2, SEAL_SIZE, 0) as u64
+}
+
+// How long the whole reply is.
 pub fn reply_length(r: rules::Request) -> u64
     ensures { λ n. ⌜ n ≡ replyLength r ⌝ }
 {
-    HEAD_SIZE as u64 + result_length(r) as u64 + pick(r.level == 2, SEAL_SIZE, 0) as u64
+    length_with(r, result_length(r))
 }
 
 // The head before a result of n bytes.

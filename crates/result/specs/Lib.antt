@@ -1,2 +1,3 @@
--- The result in the reply space.
+-- The result in the reply space, and that it is the rules' result.
 pub mod Result
+pub mod Performed

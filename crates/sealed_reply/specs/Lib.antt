@@ -1,2 +1,3 @@
--- The whole reply in its space.
+-- The whole reply in its space, and that it is the rules' reply.
 pub mod Reply
+pub mod Performed

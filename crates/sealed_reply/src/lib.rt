@@ -10,26 +10,35 @@ use effect::GrantContext;
 use rules::Operation;
 use rules::Request;
 
-// The digest of what `a` took and the reply's first n bytes goes after these.
-pub fn seal(reply: &mut [u8], a: Mac, n: usize)
-    ensures { λ _. ⌜ ((k m : List ℕ) → Keyed a k m → now (reply .exit) ≡ sealPut k m n (now (reply .entry))) ⌝ }
+// The digest of what `hash` took and the reply's first n bytes goes after these.
+pub fn seal(reply: &mut [u8], hash: Mac, n: usize)
+    ensures { λ _. ⌜ ((k m : List ℕ) → Keyed hash k m → now (reply .exit) ≡ sealPut k m n (now (reply .entry))) ⌝ }
 {
     if !octets::fits(reply.len(), n, 32) {
         return;
     }
-    let digest = mac::finish(mac::absorb(a, &reply[..n]));
+    let digest = mac::finish(mac::absorb(hash, &reply[..n]));
     octets::copy_to(reply, n, &digest);
 }
 
-// The whole reply: its head, the result, and at level 2 the digest of what `a` took, the head and the result.
-pub fn put_reply(reply: &mut [u8], medium: &[u8], a: Mac, r: Request, o: Operation, s: GrantContext)
-    ensures { λ _. ⌜ ((k m : List ℕ) → Keyed a k m → now (reply .exit) ≡ replyPut k m r o s (now (medium .entry)) (now (reply .entry))) ⌝ }
+// The whole reply to the request of numbers `r`, whose result has n bytes: its head, the result, and at level 2 the digest of
+// what `hash` took, the head and the result.
+pub fn put_reply(
+    reply: &mut [u8],
+    medium: &[u8],
+    hash: Mac,
+    r: Request,
+    n: u32,
+    o: Operation,
+    context: GrantContext,
+)
+    ensures { λ _. ⌜ ((k m : List ℕ) → Keyed hash k m
+        → now (reply .exit) ≡ replyPut k m r n o context (now (medium .entry)) (now (reply .entry))) ⌝ }
 {
-    let n = reply::result_length(r);
     let head = reply::reply_head(r, n);
     octets::copy_to(reply, 0, &head);
-    result::put_result(reply, medium, o, s);
+    result::put_result(reply, medium, o, context);
     if r.level == 2 {
-        seal(reply, a, 8 + n as usize);
+        seal(reply, hash, 8 + n as usize);
     }
 }

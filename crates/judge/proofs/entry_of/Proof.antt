@@ -1,10 +1,11 @@
 use mathlib.Core.Path.{refl}
 use Rattle.rules.specs.Frame.{entry}
+use Rattle.wire.specs.Parse.{numbersOf}
 use Rattle.judge.proofs.entry_of.Statement.{statement}
 use Rattle.judge.proofs.entry_of.Tie as tie
 
 returns : tie.Need-returns
-unfolding entry
+unfolding entry numbersOf
 returns c = refl
 
 pub entry-of-spec : {M : Type 1} → statement M

@@ -1,4 +1,4 @@
-use Rattle.wire.specs.Parse.{numbersOf}
+-- The three groups of rows are the rules' table (rows-by-facts).
 use Rattle.state.specs.Table.{partitionIn}
 use Rattle.judge.specs.Judge.{rows-by-facts}
 use borrow.Author.Needs.{needs}
@@ -6,7 +6,7 @@ use Rattle.judge.proofs.judge.Statement.{statement}
 use Rattle.judge.proofs.judge.Tie as tie
 
 returns : tie.Need-returns
-unfolding numbersOf partitionIn
+unfolding partitionIn
 returns c = λ s w.
     rw (
       c .time-row .ensures,
@@ -14,13 +14,10 @@ returns c = λ s w.
       c .before .before .room-row .ensures,
       c .before .before .before .present-version .ensures,
       c .before .before .before .before .number-at .ensures,
-      c .before .before .before .before .before .look-up .ensures,
-      c .before .before .before .before .before .before .numbers .ensures,
-    ) (rows-by-facts s _ _ _ _ _ _ _ _ w)
+    ) (rows-by-facts s _ _ _ _ _ _ _ _ _ w)
 
 pub judge-spec : {M : Type 1} → statement M
 judge-spec =
     tie.close
     (tie.spec
-    (λ c κs. search needs) (λ c κs. search needs) (λ c κs. search needs) (λ c κs. search needs)
-    (λ c κs. search needs) (λ c κs. search needs) (λ c κs. search needs) returns)
+    (λ c κs. search needs) (λ c κs. search needs) (λ c κs. search needs) (λ c κs. search needs) (λ c κs. search needs) returns)

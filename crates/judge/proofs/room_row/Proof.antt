@@ -1,3 +1,4 @@
+-- Row by row, from the first back to the last.
 use Rattle.state.specs.Table.{partitionIn, lookupIn}
 use borrow.Author.Needs.{needs}
 use Rattle.judge.proofs.room_row.Statement.{statement}
@@ -6,24 +7,29 @@ use Rattle.judge.proofs.room_row.Tie as tie
 returns : tie.Need-returns
 unfolding partitionIn lookupIn
 returns c =
+    let at19 = c .before .before in
+    let at20 = at19 .before .before in
+    let at21 = at20 .before .before in
+    let at22 = at21 .before .before in
+    let at23 = at22 .before in
+    let found = at23 .before .before in
     rw (
       c .pick6 .ensures,
-      c .before .before .pick5 .ensures,
-      c .before .before .before .object-count .ensures .0,
-      c .before .before .before .before .pick4 .ensures,
-      c .before .before .before .before .before .is-nowhere .ensures,
-      c .before .before .before .before .before .before .pick3 .ensures,
-      c .before .before .before .before .before .before .before .pick2 .ensures,
-      c .before .before .before .before .before .before .before .before .pick .ensures,
-      c .before .before .before .before .before .before .before .before .before .reply-length .ensures,
-      c .before .before .before .before .before .before .before .before .before .before .before .before .before .number-at .ensures,
-      c .before .before .before .before .before .before .before .before .before .before .before .before .before .before .look-up .ensures,
+      at19 .pick5 .ensures,
+      at19 .before .object-count .ensures .0,
+      at20 .pick4 .ensures,
+      at20 .before .is-missing .ensures,
+      at21 .pick3 .ensures,
+      at21 .before .gives-version .ensures,
+      at22 .pick2 .ensures,
+      at23 .pick .ensures,
+      found .number-at .ensures,
+      found .before .look-up .ensures,
     )
 
 pub room-row-spec : {M : Type 1} → statement M
 room-row-spec =
     tie.close
     (tie.spec
-    (λ c κs. search needs) (λ c κs. search needs) (λ c κs. search needs) (λ c κs. search needs)
-    (λ c κs. search needs) (λ c κs. search needs) (λ c κs. search needs) (λ c κs. search needs)
-    (λ c κs. search needs) (λ c κs. search needs) (λ c κs. search needs) returns)
+    (λ c κs. search needs) (λ c κs. search needs) (λ c κs. search needs) (λ c κs. search needs) (λ c κs. search needs) (λ c κs. search needs)
+    (λ c κs. search needs) (λ c κs. search needs) (λ c κs. search needs) (λ c κs. search needs) (λ c κs. search needs) returns)

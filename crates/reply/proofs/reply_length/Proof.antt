@@ -9,7 +9,4 @@ unfolding replyLength
 returns c = cc
 
 pub reply-length-spec : {M : Type 1} → statement M
-reply-length-spec =
-    tie.close
-    (tie.spec
-    (λ c κs. search needs) (λ c. search needs) (λ c. search needs) (λ c κs. search needs) (λ c. search needs) (λ c. search needs) returns)
+reply-length-spec = tie.close (tie.spec (λ c κs. search needs) (λ c κs. search needs) returns)

@@ -1,4 +1,4 @@
--- No object is told of: by computation.
+-- No object is there: by computation.
 use mathlib.Core.Path.{refl}
 use borrow.Author.Needs.{needs}
 use Rattle.state.specs.Padded.{padded}

@@ -13,10 +13,10 @@ use Rattle.drive.proofs.row1.short_memories.Tie as tie
 use Rattle.memory.specs.Memory.{memoryCount}
 
 abbrev Inv-loop : tie.InvT-loop
-Inv-loop ls r₀ i₀ r i = (i ≤ memoryCount) × (r ≡ every entriesFit (take i ls))
+Inv-loop lengths r₀ i₀ r i = (i ≤ memoryCount) × (r ≡ every entriesFit (take i lengths))
 
 abbrev μ-loop : tie.MeasureT-loop
-μ-loop ls r₀ i₀ r i = memoryCount - i
+μ-loop lengths r₀ i₀ r i = memoryCount - i
 
 loop-holds : tie.Need-loop-holds Inv-loop μ-loop
 unfolding every
