@@ -1,13 +1,13 @@
 -- What is known of an input record stays true when more arrives, so what the program prints is known record by record.
 -- p: the bytes that have arrived; q: those that come later; s: drive and medium; n: the calls so far.
-use mathlib.Core.Path.{_≡_, refl, sym, ap, _∙_}
+use mathlib.Core.Path.{_≡_, refl, ap, _∙_}
 use mathlib.Core.Logic.{_⊎_, inl, inr}
-use mathlib.Core.Bool.{Bool, true, false, _&&_, _||_}
+use mathlib.Core.Bool.{true, false, _&&_}
 use mathlib.Core.List.{List, [], _++_}
 use Prim.Native.Nat.{ℕ, suc, _+_, _≤_, _<_}
 use native.Mathlib.Omega.{arith}
 use lib.Dec.{leb}
-use lib.ListN.{length, take, drop, length-append, length-drop}
+use lib.ListN.{length, drop, length-append, length-drop}
 use lib.Seq.{take-append-le, drop-append-le}
 use borrow.Author.Tests.{le-ltb, le-leb, leb-true, ne-eqb}
 use Rattle.lemmas.specs.Tests.{_over_, _is_, _isnt_, and-l, and-r, both, or-cases, or-intro-l, or-intro-r}

@@ -1,6 +1,6 @@
 -- Each number is looked at only where it is there.
 use mathlib.Core.Path.{ap₂}
-use mathlib.Core.Bool.{Bool, _||_, not}
+use mathlib.Core.Bool.{_||_, not}
 use mathlib.Core.List.{List}
 use Prim.Native.Nat.{ℕ}
 use lib.Dec.{leb, eqb, ltb}
