@@ -6,7 +6,7 @@ use mathlib.Core.List.{List}
 use Prim.Native.Nat.{ℕ}
 use lib.ListN.{length, length-replicate}
 use Rattle.lemmas.specs.Tests.{_is_}
-use Rattle.lemmas.specs.RowTable.{Row, firstRow}
+use Rattle.lemmas.specs.RowTable.{firstRow}
 use Rattle.rules.specs.Frame.{Fields, fields}
 use Rattle.rules.specs.Drive as rules
 use Rattle.rules.specs.Drive.{refresh}
@@ -20,6 +20,10 @@ use Rattle.drive.specs.declared.Drive.{Drive}
 use Rattle.drive.specs.declared.Answer.{Answer}
 use Rattle.drive.specs.View.{view}
 use Rattle.drive.specs.Met.{GateMet, callOf}
+
+-- the size of the program's reply space, in bytes
+abbrev pub replySize : ℕ
+replySize = 65_536
 
 abbrev pub stateOf : Drive → List ℕ → State
 stateOf d m = record { drive = view d; medium = m }
@@ -51,15 +55,15 @@ gate-alike d m f clock s t e =
     rw (rows-alike d m f clock s t e)
     (alike-by (row is 0) row (refresh clock d) (afterRefusal row clock d) m (fields f) s t)
 
--- what the gate promises of the record at the start of p, put to it with any reply space of 65,536 bytes
-pub answered : (d : Drive) (m p space : List ℕ) (r : Answer) (after replied : List ℕ) → length space ≡ 65_536
+-- what the gate promises of the input record at the start of p, put to it with any reply space of that size
+pub answered : (d : Drive) (m p space : List ℕ) (r : Answer) (after replied : List ℕ) → length space ≡ replySize
     → GateMet d m (callOf (callIn p .frame) (callIn p .clock) space) r after replied
     → (r .row ≡ answer (stateOf d m) (callIn p) .row)
     × (r .length ≡ answer (stateOf d m) (callIn p) .length)
     × (stateOf (r .drive) after ≡ step (stateOf d m) (callIn p))
 unfolding answer step
 answered d m p space r after replied e g =
-    let size : length (callIn p .space) ≡ 65_536 = length-replicate {A = ℕ} 65_536 0 in
+    let size : length (callIn p .space) ≡ replySize = length-replicate {A = ℕ} replySize 0 in
     let a = gate-alike (view d) m (callIn p .frame) (callIn p .clock) space (callIn p .space) (e ∙ sym size) in (
       g .row ∙ a .row,
       g .length ∙ a .length,

@@ -20,15 +20,12 @@ use Rattle.gate.specs.declared.Refilled.{Refilled}
 use Rattle.gate.specs.Answered.{stateOf}
 use Rattle.gate.specs.Printed.{Printed}
 
--- ---- sizes, in bytes: the longest frame in an input record, the input buffer, a reply space, the longest line
+-- ---- sizes, in bytes: the longest frame in an input record, the input buffer, and room for the longest line
 abbrev pub longestFrame : ℕ
 longestFrame = 65_536
 
 abbrev pub inputSize : ℕ
 inputSize = 131_086
-
-abbrev pub replySize : ℕ
-replySize = 65_536
 
 abbrev pub lineSize : ℕ
 lineSize = 64

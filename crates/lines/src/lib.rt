@@ -1,7 +1,6 @@
 // The lines that the program prints (document 01): one for each call, and a last one.
 mod text;
 
-ghost use mathlib.Core.Path.{_≡_};
 ghost use Rattle.rules.specs.Program.{decimal, printed, ended, cut};
 ghost use Rattle.lines.specs.Text.{TextPut};
 

@@ -1,5 +1,5 @@
--- What a grant does to the ledger is, without the bytes, what it does to the drive's tables; and the ledger's object
--- that a frame names.
+-- What a grant does to the ledger is, leaving out the bytes, what it does to the drive's tables (`bare-after`); and the
+-- ledger's object that a frame names.
 use mathlib.Core.Path.{_∙_, _≡_, ap, refl, sym}
 use mathlib.Core.Bool.{Bool, cond, false, true}
 use mathlib.Core.Option.{none, Option, Option·getD, Option·map, some}
@@ -20,7 +20,7 @@ use Rattle.lemmas.specs.Tests.{_is_, _isnt_}
 use Rattle.rules.specs.declared.Credential.{Credential}
 use Rattle.rules.specs.declared.Entry.{Entry}
 use Rattle.rules.specs.declared.Object.{Object}
-use Rattle.rules.specs.Drive.{partitionWith, Partition, partitionAt, Tables, emptyPartition}
+use Rattle.rules.specs.Drive.{partitionWith, Partition, partitionAt, emptyPartition}
 use Rattle.rules.specs.declared.Operation.{Operation}
 use Rattle.rules.specs.declared.Operation.the-variants.{Create, Delete, Look, Raise, Read, SetKey, Write}
 use Rattle.rules.specs.Frame.{Fields}
@@ -68,15 +68,15 @@ bare-raised n p = objects-with (raised n (bare p)) (go (n is 0))
     go false = change-map LedgerObject.object Object.number n (ledgerWithVersion (p .last + 1)) (withVersion (p .last + 1))
         (λ h. refl) (p .objects)
 
-bare-joined : (number size start : ℕ) (p : Partition LedgerObject)
+bare-created : (number size start : ℕ) (p : Partition LedgerObject)
     → bare (ledgerCreated number size start p) ≡ created number size start (bare p)
 unfolding ledgerCreated created
-bare-joined number size start p = objects-with (created number size start (bare p))
+bare-created number size start p = objects-with (created number size start (bare p))
     (map-append LedgerObject.object (p .objects) _)
 
-bare-gone : (n : ℕ) (p : Partition LedgerObject) → bare (ledgerDeleted n p) ≡ deleted n (bare p)
+bare-deleted : (n : ℕ) (p : Partition LedgerObject) → bare (ledgerDeleted n p) ≡ deleted n (bare p)
 unfolding ledgerDeleted deleted
-bare-gone n p = objects-with (bare p) (keep-map LedgerObject.object (λ (a : Object). a .number isnt n) (p .objects))
+bare-deleted n p = objects-with (bare p) (keep-map LedgerObject.object (λ (a : Object). a .number isnt n) (p .objects))
 
 pub bare-after : (o : Operation) (s : Scope LedgerObject) (l : List Entry) (x : Fields) (m : List ℕ)
     → perform o (withMemory l (bareScope s)) x m .scope ≡ withMemory l (bareScope (ledgerPerform o s x))
@@ -85,8 +85,8 @@ bare-after (Read a b) s l x m = refl
 bare-after (Write a b) s l x m = rw (bare-written (x .cred .object) a (x .payload) (s .partition)) refl
 bare-after Look s l x m = refl
 bare-after Raise s l x m = rw (bare-raised (x .cred .object) (s .partition)) refl
-bare-after (Create a b) s l x m = rw (bare-joined a b (placementStart (bareScope s) b) (s .partition)) refl
-bare-after Delete s l x m = rw (bare-gone (x .cred .object) (s .partition)) refl
+bare-after (Create a b) s l x m = rw (bare-created a b (placementStart (bareScope s) b) (s .partition)) refl
+bare-after Delete s l x m = rw (bare-deleted (x .cred .object) (s .partition)) refl
 bare-after (SetKey a) s l x m = refl
 
 -- what a frame sees of the ledger without the bytes, beside any memory
@@ -114,11 +114,11 @@ module _ (p : Partition LedgerObject) (n : ℕ) where
   pub missing-is : missing (find numberOf n (p .objects)) ≡ missing (find Object.number n (bare p .objects))
   missing-is = sym (missing-map (find numberOf n (p .objects))) ∙ ap missing (sym found-is)
 
-  pub the-held : missing (find Object.number n (bare p .objects)) ≡ false
+  pub the-ledger-object : missing (find Object.number n (bare p .objects)) ≡ false
       → (h : LedgerObject) × (find numberOf n (p .objects) ≡ some h) × List·Memᴰ h (p .objects) × (numberOf h ≡ n)
-  the-held e = found numberOf n (p .objects) (missing-is ∙ e)
+  the-ledger-object e = found numberOf n (p .objects) (missing-is ∙ e)
 
   pub the-object : (e : missing (find Object.number n (bare p .objects)) ≡ false)
-      → Option·getD (find Object.number n (bare p .objects)) noObject ≡ the-held e .0 .object
+      → Option·getD (find Object.number n (bare p .objects)) noObject ≡ the-ledger-object e .0 .object
   the-object e = ap (λ (o : Option Object). Option·getD o noObject)
-      (found-is ∙ ap (λ (o : Option LedgerObject). Option·map LedgerObject.object o) (the-held e .1))
+      (found-is ∙ ap (λ (o : Option LedgerObject). Option·map LedgerObject.object o) (the-ledger-object e .1))

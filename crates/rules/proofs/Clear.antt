@@ -1,4 +1,4 @@
--- What is known of a frame that no row refuses.
+-- What is known of a frame that no row refuses (`Clear`), up to what a grant needs (`grant`).
 use mathlib.Core.Path.{_∙_, _≡_, ap, refl, subst}
 use mathlib.Core.Bool.{_||_, Bool, cond, false, not, true}
 use mathlib.Core.List.{[], _++_, _∷_, List, List·Memᴰ}
@@ -6,7 +6,7 @@ use Prim.Native.Nat.{_+_, _<_, _≤_, suc, zero, ℕ}
 use native.Mathlib.Omega.{arith}
 use lib.ListN.{getD, length}
 use borrow.Author.Tests.{eq-eqb, eqb-false, eqb-true, lt-ltb, ltb-false, ne-eqb, not-false, not-true}
-use Rattle.lemmas.specs.ListLaws.{every-member, not-found}
+use Rattle.lemmas.specs.ListLaws.{not-found}
 use Rattle.lemmas.specs.Lists.{every, find, missing}
 use Rattle.lemmas.specs.Parts.{length-part}
 use Rattle.lemmas.specs.RowTable.{applies, firstRow, line, none-applies, numbered, Row}
@@ -14,7 +14,7 @@ use Rattle.lemmas.specs.Tests.{_is_, _isnt_, _over_, _under_, and-rest-false, a
 use Rattle.rules.specs.declared.Object.{Object}
 use Rattle.rules.specs.declared.Request.{Request}
 use Rattle.rules.specs.BestFit.{bestFit, extentStep}
-use Rattle.rules.specs.Drive.{Drive, refresh, sound, soundObject}
+use Rattle.rules.specs.Drive.{Drive, refresh, sound}
 use Rattle.rules.specs.declared.Operation.{Operation}
 use Rattle.rules.specs.declared.Operation.the-variants.{Create, Delete, Look, Raise, Read, SetKey, Write}
 use Rattle.rules.specs.Frame.{Fields, fields, memoryIndex, operation, operationOf, operations}
@@ -56,7 +56,7 @@ use Rattle.rules.specs.Rows.{
 use Rattle.rules.specs.Scope.{Scope, driveScope}
 use Rattle.rules.proofs.Holds.{CanWrite, Grant}
 use Rattle.rules.proofs.Placing.{placed}
-use Rattle.rules.proofs.Sound.{CanCreate, object-is, partition-is, SoundPartition, SoundScope}
+use Rattle.rules.proofs.Sound.{CanCreate, member-sound, partition-is, SoundPartition, SoundScope}
 
 -- ---- a frame that row 4 does not refuse: its partition is one of the four, its memory one of the five
 module _ (x : Fields) (clear4 : row4 (x .cred) (x .req) ≡ false) where
@@ -346,9 +346,7 @@ module _ {f : List ℕ} {s : Scope Object} {space : List ℕ} (g : Clear f s spa
       it = partition-is (s .quarter) (s .partition) h
 
       sized : (a : Object) → List·Memᴰ a here → 1 ≤ a .size
-      sized a k =
-          object-is (s .quarter) (s .partition .last) a
-          (every-member (soundObject (s .quarter) (s .partition .last)) here a (it .each) k) .size
+      sized a k = member-sound it k .size
 
   pub grant : SoundScope s → Grant (operationOf x) s x
   grant h = record { partition = in-four; writes = can-write; creates = can-create h }

@@ -1,19 +1,18 @@
--- Demand 3.
+-- Demand 3, of every list of calls after a format: by the invariant of Step.antt, which a format begins and each call keeps.
 use mathlib.Core.Path.{_∙_, _≡_, ap, refl, subst, subst₂, sym}
 use mathlib.Core.Logic.{_⊎_, inl, inr}
-use mathlib.Core.Bool.{_||_, Bool, cond, false, false≢true, true}
+use mathlib.Core.Bool.{Bool, cond, false, false≢true, true}
 use mathlib.Core.Option.{none, some}
 use mathlib.Core.List.{[], _++_, _∷_, List, List·Memᴰ, List·Memᴰ·not-nil}
 use Prim.Native.Nat.{_+_, _<_, _≤_, ℕ}
 use native.Mathlib.Decide.{decLt, ℕ-discrete}
 use native.Mathlib.Omega.{arith}
-use lib.Dec.{leb}
-use lib.ListN.{length, length-map, length-replicate, List·getD-eq-default, replicate}
-use borrow.Author.Tests.{eq-eqb, eqb-true, leb-true, ltb-false}
-use Rattle.lemmas.specs.ListLaws.{every-member, every-nth, pairs-members}
+use lib.ListN.{length, length-map, length-replicate, replicate}
+use borrow.Author.Tests.{eq-eqb, eqb-true, ltb-false}
+use Rattle.lemmas.specs.ListLaws.{every-nth}
 use Rattle.lemmas.specs.Lists.{every}
 use Rattle.lemmas.specs.RowTable.{applies, firstRow, none-applies}
-use Rattle.lemmas.specs.Tests.{_is_, _isnt_, and-r, both, or-cases}
+use Rattle.lemmas.specs.Tests.{_is_, both}
 use Rattle.rules.specs.declared.Object.{Object}
 use Rattle.rules.specs.Demands.{
   after,
@@ -29,24 +28,10 @@ use Rattle.rules.specs.Demands.{
   step,
   extentTo,
 }
-use Rattle.rules.specs.Drive.{
-  apart,
-  format,
-  formatRows,
-  Formatted,
-  newDrive,
-  newTables,
-  Partition,
-  partitionAt,
-  quarter,
-  soundObject,
-  soundPartition,
-  Tables,
-  emptyPartition,
-}
+use Rattle.rules.specs.Drive.{format, formatRows, Formatted, newDrive, newTables, Partition, partitionAt, quarter, soundPartition, Tables, emptyPartition}
 use Rattle.rules.specs.Frame.{fields}
 use Rattle.rules.specs.Gate.{Call}
-use Rattle.rules.specs.Ledger.{bare, feed, LedgerObject, Ledger, ledger, ledgerStart, tablesOf}
+use Rattle.rules.specs.Ledger.{bare, LedgerObject, Ledger, ledger, ledgerStart, tablesOf}
 use Rattle.rules.specs.Operations.{namedObject, objectOf, presentVersion}
 use Rattle.rules.specs.Rows.{bounds, row10, row14, row15, row17, row8, row9}
 use Rattle.rules.specs.Scope.{Scope}
@@ -56,14 +41,17 @@ use Rattle.rules.proofs.Known.{granted-known, Known, known-not-granted,
 use Rattle.rules.proofs.Shown.{read-shown}
 use Rattle.rules.proofs.Sound.{
   at-sound,
-  object-is,
+  below-four,
+  Disjoint,
+  member-sound,
+  members-disjoint,
   partition-is,
   SoundObject,
   SoundPartition,
   SoundTables,
   unused-sound,
 }
-use Rattle.rules.proofs.Step.{clear-of, fedOf, Inv, inv-sound, row-zero, sees-is, step-inv}
+use Rattle.rules.proofs.Step.{clear-of, Invariant, inv-sound, row-zero, sees-is, step-inv}
 
 -- ---- format
 empty : {A : Type 0} → List A → Bool
@@ -105,14 +93,14 @@ module _ (medium : List ℕ) (F : ℕ) (master drive : List ℕ) where
   unfolding row formatRows applies every
   small e = ltb-false 16777216 (length medium) (none-applies (formatRows medium F master drive) refl e 24)
 
-  start-inv : row ≡ 0 → Inv (length medium) (record { drive = made .drive; medium = made .medium })
+  start-inv : row ≡ 0 → Invariant (length medium) (record { drive = made .drive; medium = made .medium })
       (ledgerStart F master drive)
   unfolding made ledgerStart tablesOf every empty
   start-inv e = record {
     small = small e;
     size = refl;
     tables = refl;
-    good = record {
+    consistent = record {
       size = length-replicate (length medium) 0;
       four = refl;
       sound = both u (both u (both u (both u refl)));
@@ -128,17 +116,17 @@ module _ (medium : List ℕ) (F : ℕ) (master drive : List ℕ) where
       u = unused-sound (quarter (length medium)) F
 
 -- ---- lists of calls
-run-inv : (M : ℕ) (s : State) (l : Ledger) (cs : List Call) → Inv M s l → Inv M (after s cs) (ledger M l (fed s cs))
+run-inv : {M : ℕ} {s : State} {l : Ledger} → Invariant M s l → (cs : List Call)
+    → Invariant M (after s cs) (ledger M l (fed s cs))
 unfolding after ledger fed
-run-inv M s l [] v = v
-run-inv M s l (c ∷ cs) v = run-inv M (step s c) (feed M l (fedOf s c)) cs (step-inv M s l c v)
+run-inv v [] = v
+run-inv v (c ∷ cs) = run-inv (step-inv v c) cs
 
-run-known : (M : ℕ) (s : State) (l : Ledger) (cs : List Call) (n : Nonce) → Inv M s l → Known n (s .drive)
+run-known : {M : ℕ} {s : State} {l : Ledger} → Invariant M s l → (cs : List Call) (n : Nonce) → Known n (s .drive)
     → Known n (after s cs .drive)
 unfolding after
-run-known M s l [] n v k = k
-run-known M s l (c ∷ cs) n v k = run-known M (step s c) (feed M l (fedOf s c)) cs n (step-inv M s l c v)
-    (step-known M s l c v n k)
+run-known v [] n k = k
+run-known v (c ∷ cs) n k = run-known (step-inv v c) cs n (step-known v c n k)
 
 after-append : (s : State) (a : List Call) (c : Call) (b : List Call)
     → after s (a ++ (c ∷ b)) ≡ after (step (after s a) c) b
@@ -146,18 +134,18 @@ unfolding after
 after-append s [] c b = refl
 after-append s (x ∷ xs) c b = after-append (step s x) xs c b
 
--- ---- what demand 3 says of areas
+-- ---- what demand 3 says of extents
 bare-count : (l : Ledger) → length (tablesOf l .partitions) ≡ length (l .partitions)
 unfolding tablesOf
 bare-count l = length-map (l .partitions) bare
 
-pub agree : (M : ℕ) (s : State) (l : Ledger) → Inv M s l → Agrees M s l
-agree M s l v = record {
+pub agree : {M : ℕ} {s : State} {l : Ledger} → Invariant M s l → Agrees M s l
+agree {M} {s} {l} v = record {
   tables = v .tables;
-  bytes = v .good .bytes;
+  bytes = v .consistent .bytes;
   inside = λ p a k. (four p a k, (omega arith, omega (arith, object p a k .inside)));
   disjoint = λ p r a b j k ne. meet p r a b j k ne (ℕ-discrete p r);
-  sound = inv-sound M s l v;
+  sound = inv-sound v;
 }
   where
     t : Tables Object
@@ -165,51 +153,24 @@ agree M s l v = record {
 
     at : (p : ℕ) → SoundPartition (quarter M) (partitionAt t p)
     at p = partition-is (quarter M) (partitionAt t p)
-        (at-sound (quarter M) t p (subst (SoundTables (quarter M)) (sym (v .tables)) (v .good .sound)))
+        (at-sound (quarter M) t p (subst (SoundTables (quarter M)) (sym (v .tables)) (v .consistent .sound)))
 
     object : (p : ℕ) (a : Object) → Has s p a → SoundObject (quarter M) (partitionAt t p .last) a
-    object p a k = object-is (quarter M) (partitionAt t p .last) a
-        (every-member (soundObject (quarter M) (partitionAt t p .last)) (partitionAt t p .objects) a (at p .each) k)
+    object p a k = member-sound (at p) k
 
     four : (p : ℕ) (a : Object) → Has s p a → p < 4
-    four p a k = go (decLt p 4)
-      where
-        count : length (t .partitions) ≡ 4
-        count = ap (λ (u : Tables Object). length (u .partitions)) (v .tables) ∙ bare-count l ∙ v .good .four
+    four p a k = below-four t p a (ap (λ (u : Tables Object). length (u .partitions)) (v .tables) ∙ bare-count l ∙ v .consistent .four) k
 
-        go : Dec (p < 4) → p < 4
-        go (yes e) = e
-        go (no e) =
-            absurd (List·Memᴰ·not-nil (subst (λ (r : Partition Object). List·Memᴰ a (r .objects))
-            (List·getD-eq-default (t .partitions) (emptyPartition 0) {n = p} (omega (arith, count))) k))
-
-    ways : (p : ℕ) (a b : Object) → apart a b ≡ true → (extentTo M p a ≤ extentFrom M p b) ⊎ (extentTo M p b ≤ extentFrom M p a)
-    ways p a b e =
-        go (or-cases (leb (a .start + a .size) (b .start)) (leb (b .start + b .size) (a .start))
-        (and-r (a .number isnt b .number) (leb (a .start + a .size) (b .start) || leb (b .start + b .size) (a .start))
-        e))
-      where
-        go : (leb (a .start + a .size) (b .start) ≡ true) ⊎ (leb (b .start + b .size) (a .start) ≡ true)
-            → (extentTo M p a ≤ extentFrom M p b) ⊎ (extentTo M p b ≤ extentFrom M p a)
-        go (inl k) = inl (omega (arith, leb-true (a .start + a .size) (b .start) k))
-        go (inr k) = inr (omega (arith, leb-true (b .start + b .size) (a .start) k))
-
-    swap : {A B : Type 0} → A ⊎ B → B ⊎ A
-    swap (inl x) = inr x
-    swap (inr x) = inl x
-
-    one : (p : ℕ) (a b : Object) → (a .number ≡ b .number → ⊥) → (a ≡ b) ⊎ ((apart a b ≡ true) ⊎ (apart b a ≡ true))
+    one : (p : ℕ) (a b : Object) → Disjoint a b
         → (extentTo M p a ≤ extentFrom M p b) ⊎ (extentTo M p b ≤ extentFrom M p a)
-    one p a b ne (inl e) = absurd (ne (ap Object.number e))
-    one p a b ne (inr (inl e)) = ways p a b e
-    one p a b ne (inr (inr e)) = swap (ways p b a e)
+    one p a b (inl e) = inl (omega arith)
+    one p a b (inr e) = inr (omega arith)
 
     meet : (p r : ℕ) (a b : Object) → Has s p a → Has s r b → (p ≡ r → a .number ≡ b .number → ⊥) → Dec (p ≡ r)
         → (extentTo M p a ≤ extentFrom M r b) ⊎ (extentTo M r b ≤ extentFrom M p a)
     meet p r a b j k ne (yes e) =
         subst (λ (n : ℕ). (extentTo M p a ≤ extentFrom M n b) ⊎ (extentTo M n b ≤ extentFrom M p a)) e
-        (one p a b (ne e) (pairs-members apart (partitionAt t p .objects) a b (at p .pair) j
-        (subst (λ (n : ℕ). Has s n b) (sym e) k)))
+        (one p a b (members-disjoint (at p) j (subst (λ (n : ℕ). Has s n b) (sym e) k) (ne e)))
     meet p r a b j k ne (no e) = go (decLt p r)
       where
         go : Dec (p < r) → (extentTo M p a ≤ extentFrom M r b) ⊎ (extentTo M r b ≤ extentFrom M p a)
@@ -219,48 +180,38 @@ agree M s l v = record {
             inr (omega (arith, quarter-below (quarter M) r p h′, object r b k .inside))
 
 -- ---- demand 3, from any state and ledger of which the invariant holds
-demand : (M : ℕ) (s : State) (l : Ledger) (calls : List Call) → Inv M s l → Demand3 M s l calls
--- (the rows that the ledger judges look at no memory)
+demand : {M : ℕ} {s : State} {l : Ledger} → Invariant M s l → (calls : List Call) → Demand3 M s l calls
+-- (the rows that the ledger judges do not look at the replay memory)
 unfolding bounds row8 row9 row10 row14 row15 row17 namedObject objectOf presentVersion
-demand M s l calls v = record {
+demand {M} {s} {l} v calls = record {
   noRepeat = λ before between later c d e gc gd same.
-      let u = run-inv M s l before v in
+      let u = run-inv v before in
       let k : Known (nonce c) (after (step (after s before) c) between .drive) =
-      run-known M (step (after s before) c) (feed M (ledger M l (fed s before)) (fedOf (after s before) c)) between
-      (nonce c)
-      (step-inv M (after s before) (ledger M l (fed s before)) c u)
-      (granted-known M (after s before) (ledger M l (fed s before)) c u gc) in
-      known-not-granted M (after s (before ++ (c ∷ between))) (ledger M l (fed s (before ++ (c ∷ between)))) d
-      (run-inv M s l (before ++ (c ∷ between)) v)
+      run-known (step-inv u c) between (nonce c) (granted-known u c gc) in
+      known-not-granted (run-inv v (before ++ (c ∷ between))) d
       (subst₂ (λ (n : Nonce) (w : State). Known n (w .drive)) same (sym (after-append s before c between)) k) gd;
   kept = λ before later c e g.
-      let u = run-inv M s l before v in
-      subst (λ (t : Scope Object). firstRow (bounds t (fields (c .frame))) ≡ 0)
-      (sees-is M (after s before) (ledger M l (fed s before)) c u)
-      (bound (clear-of M (after s before) (ledger M l (fed s before)) c u
-      (row-zero M (after s before) (ledger M l (fed s before)) c u g)));
-  shown = λ before later c A B e g o. read-shown M (after s before) (ledger M l (fed s before)) c
-      (run-inv M s l before v) g A B o;
-  agrees = λ before later e. agree M (after s before) (ledger M l (fed s before)) (run-inv M s l before v);
+      let u = run-inv v before in
+      subst (λ (t : Scope Object). firstRow (bounds t (fields (c .frame))) ≡ 0) (sees-is u c)
+      (bound (clear-of u c (row-zero u c g)));
+  shown = λ before later c A B e g o. read-shown (run-inv v before) c g A B o;
+  agrees = λ before later e. agree (run-inv v before);
 }
 
+-- the state that a format leaves
+abbrev pub startState : List ℕ → ℕ → List ℕ → List ℕ → State
+startState medium F master drive =
+    let f = format medium F master drive in
+    record { drive = f .drive; medium = f .medium }
+
 pub format-inv : (medium : List ℕ) (F : ℕ) (master drive : List ℕ) → format medium F master drive .row ≡ 0
-    → Inv (length medium) (record {
-      drive = format medium F master drive .drive;
-      medium =
-          format medium F master drive .medium;
-    }) (ledgerStart F master drive)
+    → Invariant (length medium) (startState medium F master drive) (ledgerStart F master drive)
 format-inv medium F master drive e =
     let r : row medium F master drive ≡ 0 = formatted medium F master drive e in
-    subst (λ (f : Formatted). Inv (length medium) (record { drive = f .drive; medium = f .medium })
+    subst (λ (f : Formatted). Invariant (length medium) (record { drive = f .drive; medium = f .medium })
     (ledgerStart F master drive))
     (sym (format-made medium F master drive r)) (start-inv medium F master drive r)
 
 pub demand3 : AllOfDemand3
 demand3 medium F master drive calls e =
-    demand (length medium) (record {
-      drive = format medium F master drive .drive;
-      medium =
-          format medium F master drive .medium;
-    }) (ledgerStart F master drive) calls
-    (format-inv medium F master drive e)
+    demand (format-inv medium F master drive e) calls

@@ -1,5 +1,5 @@
--- Two rows where a wrong table would still hold together: a credential with every right lacks none, and a memory with an
--- entry to spare is not full.
+-- Two rows that the other theorems would not miss if they refused too much: row 13 does not refuse a credential with
+-- every right, and row 22 does not refuse where the memory has an entry to spare.
 use mathlib.Core.Path.{_≡_}
 use mathlib.Core.Bool.{false}
 use Prim.Native.Nat.{ℕ, zero, suc, _+_, _<_}

@@ -40,10 +40,10 @@ module _ {A : Type 0} (number : A → ℕ) where
       go false e ih = ap (cond (number x is n) (some x)) ih
 
   -- the elements numbered n, or of another number, go
-  pub find-gone : (n : ℕ) (l : List A) → find number n (keep (λ (a : A). number a isnt n) l) ≡ none
+  pub find-dropped : (n : ℕ) (l : List A) → find number n (keep (λ (a : A). number a isnt n) l) ≡ none
   unfolding find keep
-  find-gone n [] = refl
-  find-gone n (x ∷ xs) = go (number x is n) refl (find-gone n xs)
+  find-dropped n [] = refl
+  find-dropped n (x ∷ xs) = go (number x is n) refl (find-dropped n xs)
     where
       go : (b : Bool) → (number x is n) ≡ b
           → find number n (keep (λ (a : A). number a isnt n) xs) ≡ none
@@ -68,17 +68,17 @@ module _ {A : Type 0} (number : A → ℕ) where
       go false e ih = ap (cond (number x is n) (some x)) ih
 
   -- one of another number joins, or the only one numbered n
-  pub find-joined-other : (n : ℕ) (a : A) → (number a ≡ n → ⊥) → (l : List A)
+  pub find-appended-other : (n : ℕ) (a : A) → (number a ≡ n → ⊥) → (l : List A)
       → find number n (l ++ (a ∷ [])) ≡ find number n l
   unfolding find
-  find-joined-other n a ne [] = rw (ne-eqb (number a) n ne) refl
-  find-joined-other n a ne (x ∷ xs) = ap (cond (number x is n) (some x)) (find-joined-other n a ne xs)
+  find-appended-other n a ne [] = rw (ne-eqb (number a) n ne) refl
+  find-appended-other n a ne (x ∷ xs) = ap (cond (number x is n) (some x)) (find-appended-other n a ne xs)
 
-  pub find-joined : (n : ℕ) (a : A) → number a ≡ n → (l : List A) → missing (find number n l) ≡ true
+  pub find-appended : (n : ℕ) (a : A) → number a ≡ n → (l : List A) → missing (find number n l) ≡ true
       → find number n (l ++ (a ∷ [])) ≡ some a
   unfolding find missing
-  find-joined n a e [] h = rw (eq-eqb (number a) n e) refl
-  find-joined n a e (x ∷ xs) h = go (number x is n) (λ k. find-joined n a e xs k) h
+  find-appended n a e [] h = rw (eq-eqb (number a) n e) refl
+  find-appended n a e (x ∷ xs) h = go (number x is n) (λ k. find-appended n a e xs k) h
     where
       go : (b : Bool) → (missing (find number n xs) ≡ true → find number n (xs ++ (a ∷ [])) ≡ some a)
           → missing (cond b (some x) (find number n xs)) ≡ true

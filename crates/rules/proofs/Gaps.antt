@@ -1,5 +1,5 @@
 -- `gaps` are the document's gaps: the runs of free bytes that can't be lengthened.
-use mathlib.Core.Path.{_≡_, refl, sym, ap, _∙_, subst}
+use mathlib.Core.Path.{_≡_, refl, sym, _∙_, subst}
 use mathlib.Core.Logic.{_⊎_, inl, inr, _↔_}
 use mathlib.Core.Bool.{Bool, true, false, _||_, cond}
 use mathlib.Core.List.{List, [], _∷_, map, List·Memᴰ, List·Memᴰ·head, List·Memᴰ·tail, Memᴰ·map, Memᴰ·of-map}
@@ -16,7 +16,7 @@ use Rattle.rules.specs.BestFit.{Taken, Gap, IsGap, free, nearer, next, g
 ends : List Object → List ℕ
 ends objects = map (λ (a : Object). a .start + a .size) objects
 
--- ---- the next area
+-- ---- where the next extent starts
 nearer-le : (i end : ℕ) (a : Object) → nearer i end a ≤ end
 nearer-le i end a = go (leb i (a .start))
   where
@@ -40,7 +40,7 @@ next-start q (x ∷ xs) i a (List·Memᴰ·head e) h =
     (omega (arith, next-le (nearer i q x) xs i, nearer-start i q x (subst (λ (y : Object). i ≤ y .start) e h)))
 next-start q (x ∷ xs) i a (List·Memᴰ·tail k) h = next-start (nearer i q x) xs i a k h
 
--- it is the quarter's end or an area's start
+-- it is the quarter's end or an extent's start
 Found : ℕ → List Object → ℕ → ℕ → Type 0
 Found q objects i n = (n ≡ q) ⊎ ((a : Object) × List·Memᴰ a objects × (i ≤ a .start) × (n ≡ a .start))
 
@@ -72,7 +72,7 @@ next-is q (x ∷ xs) i = go (nearer-is i q x) (next-is (nearer i q x) xs i)
     go (inr e) (inl f) = inr (x, List·Memᴰ·head refl, e .0, f ∙ e .1)
     go e (inr f) = inr (f .0, List·Memᴰ·tail (f .1), f .2, f .3)
 
--- ---- for areas that are not empty
+-- ---- for extents that are not empty
 module _ (q : ℕ) (objects : List Object) (sized : (a : Object) → List·Memᴰ a objects → 1 ≤ a .size) where
   free-at : (i : ℕ) → free objects i ≡ true → (a : Object) → List·Memᴰ a objects → (i < a .start)
       ⊎ (a .start + a .size ≤ i)
@@ -153,7 +153,7 @@ module _ (q : ℕ) (objects : List Object) (sized : (a : Object) → List·Mem�
           → j < a .start + a .size → ⊥
       open-at j b c a k d e = h .free j b c (a, k, d, e)
 
-      -- the gap ends before the next area, and at it
+      -- the gap ends where the next extent starts
       upper : Found q objects (g .from) (next q objects (g .from)) → g .to ≤ next q objects (g .from)
       upper (inl e) = omega (arith, h .inside)
       upper (inr r) = go (bool-cases (leb (g .to) (r .0 .start)))

@@ -1,51 +1,41 @@
--- A grant keeps each object's area of the medium holding its bytes in the ledger.
+-- The ledger's tables are sound, and each object's extent of the medium has the object's bytes (`Consistent`). A grant
+-- keeps it so (`consistent-after`).
+-- M: the size of the medium. m: the medium. l: a ledger. p, r: numbers of partitions. h, k: objects of the ledger.
 use mathlib.Core.Path.{_∙_, _≡_, ap, refl, subst, sym}
 use mathlib.Core.Logic.{_⊎_, inl, inr}
-use mathlib.Core.Bool.{_||_, Bool, cond, false, true}
-use mathlib.Core.List.{[], _∷_, List, List·Memᴰ, List·Memᴰ·append-cases, List·Memᴰ·eq-of-singleton, List·Memᴰ·not-nil}
+use mathlib.Core.Bool.{Bool, cond, false, true}
+use mathlib.Core.List.{[], _∷_, List, List·Memᴰ, List·Memᴰ·append-cases, List·Memᴰ·eq-of-singleton, Memᴰ·map}
 use Prim.Native.Nat.{_*_, _+_, _<_, _≤_, ℕ}
 use native.Mathlib.Decide.{decLt, ℕ-discrete}
 use native.Mathlib.Nat.{add-assoc, mul-le-mul-right}
 use native.Mathlib.Omega.{arith}
-use lib.Dec.{eqb, leb}
-use lib.ListN.{getD, length, length-replicate, List·getD-eq-default, replicate}
-use borrow.Author.Tests.{eqb-false, leb-true, not-true}
-use Rattle.lemmas.specs.ListLaws.{every-member, every-unmap, length-update, member-change, member-keep, nth-update, nth-update-other, pairs-members, pairs-unmap}
-use Rattle.lemmas.specs.Lists.{change, every, missing, part, splice, update}
+use lib.Dec.{leb}
+use lib.ListN.{getD, length, length-replicate, replicate}
+use borrow.Author.Tests.{leb-true}
+use Rattle.lemmas.specs.ListLaws.{every-member, length-update, member-change, member-keep, nth-update, nth-update-other, pairs-members, pairs-unmap}
+use Rattle.lemmas.specs.Lists.{change, missing, part, splice, update}
 use Rattle.lemmas.specs.Parts.{length-splice, part-apart, part-inside, part-new}
-use Rattle.lemmas.specs.Tests.{_is_, _isnt_, and-l, and-r, or-cases}
+use Rattle.lemmas.specs.Tests.{_is_, _isnt_, or-cases}
 use Rattle.rules.specs.declared.Entry.{Entry}
 use Rattle.rules.specs.declared.Object.{Object}
-use Rattle.rules.specs.Drive.{apart, Keys, Partition, partitionAt, quarter, soundObject, soundPartition, emptyPartition}
+use Rattle.rules.specs.Drive.{apart, Keys, Partition, partitionAt, quarter, soundPartition, emptyPartition}
 use Rattle.rules.specs.declared.Operation.{Operation}
 use Rattle.rules.specs.declared.Operation.the-variants.{Create, Delete, Look, Raise, Read, SetKey, Write}
 use Rattle.rules.specs.Frame.{Fields}
-use Rattle.rules.specs.Ledger.{
-  bare,
-  bareScope,
-  ledgerDeleted,
-  LedgerObject,
-  ledgerWithVersion,
-  ledgerCreated,
-  Ledger,
-  ledgerPerform,
-  ledgerScope,
-  numberOf,
-  ledgerRaised,
-  ledgerStart,
-  tablesOf,
-  ledgerWritten,
-  withBytesWritten,
-}
+use Rattle.rules.specs.Ledger.{bare, bareScope, ledgerDeleted, LedgerObject, ledgerWithVersion, ledgerCreated, Ledger, ledgerPerform, ledgerScope, numberOf, ledgerRaised, tablesOf, ledgerWritten, withBytesWritten}
 use Rattle.rules.specs.Operations.{extentStart, keySet, namedObject, objectOf, perform, placement, placementStart}
 use Rattle.rules.specs.Scope.{withScope, Scope, withKeys}
-use Rattle.rules.proofs.Bare.{bare-after, bare-at, bare-back, sees, the-held, the-object}
+use Rattle.rules.proofs.Bare.{bare-after, bare-at, bare-back, sees, the-ledger-object, the-object}
 use Rattle.rules.proofs.Placing.{clearOf}
 use Rattle.rules.proofs.Sound.{
+  apart-differ,
   at-sound,
   back-sound,
+  below-four,
   CanCreate,
-  object-is,
+  Disjoint,
+  member-sound,
+  members-disjoint,
   partition-is,
   scope-sound,
   SoundObject,
@@ -66,15 +56,15 @@ pub record Grant (o : Operation) (s : Scope Object) (x : Fields) : Type 0 where
   pub creates : (number size : ℕ) → o ≡ Create number size → CanCreate s number size
 
 -- ---- what is known of ledger and medium
-abbrev pub Bytes : ℕ → List ℕ → Ledger → Type 0
-Bytes M m l = (p : ℕ) (h : LedgerObject) → List·Memᴰ h (partitionAt l p .objects)
-    → part m (p * quarter M + h .object .start) (h .object .size) ≡ h .bytes
+-- the extent of an object of partition p has the object's bytes
+abbrev pub Held : ℕ → List ℕ → ℕ → LedgerObject → Type 0
+Held M m p h = part m (p * quarter M + h .object .start) (h .object .size) ≡ h .bytes
 
-pub record Good (M : ℕ) (m : List ℕ) (l : Ledger) : Type 0 where
+pub record Consistent (M : ℕ) (m : List ℕ) (l : Ledger) : Type 0 where
   pub size : length m ≡ M
   pub four : length (l .partitions) ≡ 4
   pub sound : SoundTables (quarter M) (tablesOf l)
-  pub bytes : Bytes M m l
+  pub bytes : (p : ℕ) (h : LedgerObject) → List·Memᴰ h (partitionAt l p .objects) → Held M m p h
 
 -- ---- the quarters
 pub quarter-in : (M p : ℕ) → p < 4 → p * quarter M + quarter M ≤ M
@@ -83,112 +73,57 @@ quarter-in M p h = omega (arith, mul-le-mul-right (quarter M) h)
 pub quarter-below : (q p r : ℕ) → p < r → p * q + q ≤ r * q
 quarter-below q p r h = omega (arith, mul-le-mul-right q h)
 
-module _ (M : ℕ) (m : List ℕ) (l : Ledger) (g : Good M m l) where
-  q : ℕ
-  q = quarter M
-
-  -- only four partitions have objects
-  pub partition-in-four : (p : ℕ) (h : LedgerObject) → List·Memᴰ h (partitionAt l p .objects) → p < 4
-  partition-in-four p h k = go (decLt p 4)
-    where
-      go : Dec (p < 4) → p < 4
-      go (yes e) = e
-      go (no e) =
-          absurd (List·Memᴰ·not-nil (subst (λ (r : Partition LedgerObject). List·Memᴰ h (r .objects))
-          (List·getD-eq-default (l .partitions) (emptyPartition 0) {n = p} (omega (arith, g .four))) k))
+module _ {M : ℕ} {m : List ℕ} {l : Ledger} (g : Consistent M m l) where
+  abbrev In : ℕ → LedgerObject → Type 0
+  In p h = List·Memᴰ h (partitionAt l p .objects)
 
   sound-at : (p : ℕ) → SoundPartition (quarter M) (bare (partitionAt l p))
   sound-at p = subst (SoundPartition (quarter M)) (bare-at l p)
       (partition-is (quarter M) (partitionAt (tablesOf l) p) (at-sound (quarter M) (tablesOf l) p (g .sound)))
 
-  pub held-sound : (p : ℕ) (h : LedgerObject) → List·Memᴰ h (partitionAt l p .objects)
-      → SoundObject (quarter M) (partitionAt l p .last) (h .object)
-  held-sound p h k =
-      object-is (quarter M) (partitionAt l p .last) (h .object)
-      (every-member (λ (a : LedgerObject). soundObject (quarter M) (partitionAt l p .last) (a .object))
-      (partitionAt l p .objects) h
-      (every-unmap (soundObject (quarter M) (partitionAt l p .last)) LedgerObject.object (partitionAt l p .objects)
-      (sound-at p .each)) k)
+  sound-in : (p : ℕ) (h : LedgerObject) → In p h → SoundObject (quarter M) (partitionAt l p .last) (h .object)
+  sound-in p h k = member-sound (sound-at p) (Memᴰ·map LedgerObject.object k)
 
-  inside : (p : ℕ) (h : LedgerObject) → List·Memᴰ h (partitionAt l p .objects)
-      → p * quarter M + h .object .start + h .object .size ≤ length m
-  inside p h k = omega (arith, quarter-in M p (partition-in-four p h k), held-sound p h k .inside, g .size)
+  -- an object's extent lies within the medium
+  pub inside : (p : ℕ) (h : LedgerObject) → In p h → p * quarter M + h .object .start + h .object .size ≤ length m
+  inside p h k = omega (arith, quarter-in M p (below-four l p h (g .four) k), sound-in p h k .inside, g .size)
 
-  Lies : Object → Object → Type 0
-  Lies a b = (a .start + a .size ≤ b .start) ⊎ (b .start + b .size ≤ a .start)
-
-  apart-lies : (a b : Object) → apart a b ≡ true → Lies a b
-  unfolding Lies
-  apart-lies a b e = go (or-cases (leb (a .start + a .size) (b .start)) (leb (b .start + b .size) (a .start))
-      (and-r (a .number isnt b .number) (leb (a .start + a .size) (b .start) || leb (b .start + b .size) (a .start))
-      e))
+  -- two objects of one number are one
+  unique : (p : ℕ) (h k : LedgerObject) → In p h → In p k → numberOf h ≡ numberOf k → h ≡ k
+  unique p h k i j e = go (pairs-members (λ (a b : LedgerObject). apart (a .object) (b .object)) (partitionAt l p .objects)
+      h k (pairs-unmap apart LedgerObject.object (partitionAt l p .objects) (sound-at p .pair)) i j)
     where
-      go : (leb (a .start + a .size) (b .start) ≡ true) ⊎ (leb (b .start + b .size) (a .start) ≡ true)
-          → (a .start + a .size ≤ b .start) ⊎ (b .start + b .size ≤ a .start)
-      go (inl e) = inl (leb-true (a .start + a .size) (b .start) e)
-      go (inr e) = inr (leb-true (b .start + b .size) (a .start) e)
-
-  pair-of : (p : ℕ) (h k : LedgerObject) → List·Memᴰ h (partitionAt l p .objects) → List·Memᴰ k (partitionAt l p .objects)
-      → (h ≡ k) ⊎ ((apart (h .object) (k .object) ≡ true) ⊎ (apart (k .object) (h .object) ≡ true))
-  pair-of p h k i j =
-      pairs-members (λ (a b : LedgerObject). apart (a .object) (b .object)) (partitionAt l p .objects) h k
-      (pairs-unmap apart LedgerObject.object (partitionAt l p .objects) (sound-at p .pair)) i j
-
-  -- two of one number are one
-  unique : (p : ℕ) (h k : LedgerObject) → List·Memᴰ h (partitionAt l p .objects) → List·Memᴰ k (partitionAt l p .objects)
-      → numberOf h ≡ numberOf k → h ≡ k
-  unique p h k i j e = go (pair-of p h k i j)
-    where
-      differ : (a b : Object) → apart a b ≡ true → a .number ≡ b .number → ⊥
-      differ a b f = eqb-false (a .number) (b .number)
-          (not-true (eqb (a .number) (b .number))
-          (and-l (a .number isnt b .number) (leb (a .start + a .size) (b .start)
-          || leb (b .start + b .size) (a .start)) f))
-
       go : (h ≡ k) ⊎ ((apart (h .object) (k .object) ≡ true) ⊎ (apart (k .object) (h .object) ≡ true)) → h ≡ k
       go (inl f) = f
-      go (inr (inl f)) = absurd (differ (h .object) (k .object) f e)
-      go (inr (inr f)) = absurd (differ (k .object) (h .object) f (sym e))
+      go (inr (inl f)) = absurd (apart-differ (h .object) (k .object) f e)
+      go (inr (inr f)) = absurd (apart-differ (k .object) (h .object) f (sym e))
 
-  -- two of different numbers lie apart
-  lie-apart : (p : ℕ) (h k : LedgerObject) → List·Memᴰ h (partitionAt l p .objects) → List·Memᴰ k (partitionAt l p .objects)
-      → (numberOf h ≡ numberOf k → ⊥) → Lies (k .object) (h .object)
-  unfolding Lies
-  lie-apart p h k i j e = go (pair-of p h k i j)
-    where
-      swap : Lies (h .object) (k .object) → Lies (k .object) (h .object)
-      swap (inl a) = inr a
-      swap (inr a) = inl a
+  -- bytes written away from an object leave its bytes alone
+  untouched : (r at : ℕ) (new : List ℕ) (h : LedgerObject) → In r h → at + length new ≤ length m
+      → (at + length new ≤ r * quarter M + h .object .start)
+      ⊎ (r * quarter M + h .object .start + h .object .size ≤ at)
+      → Held M (splice m at new) r h
+  untouched r at new h k room away =
+      part-apart m new at (r * quarter M + h .object .start) (h .object .size) room (inside r h k) away ∙ g .bytes r h k
 
-      go : (h ≡ k) ⊎ ((apart (h .object) (k .object) ≡ true) ⊎ (apart (k .object) (h .object) ≡ true))
-          → Lies (k .object) (h .object)
-      go (inl f) = absurd (e (ap numberOf f))
-      go (inr (inl f)) = swap (apart-lies (h .object) (k .object) f)
-      go (inr (inr f)) = apart-lies (k .object) (h .object) f
-
-  -- new bytes in one partition leave the other partitions' objects alone
+  -- bytes written in one partition leave the objects of the others alone
   elsewhere : (p a : ℕ) (new : List ℕ) → p < 4 → a + length new ≤ quarter M
-      → (r : ℕ) (h : LedgerObject) → (r ≡ p → ⊥) → List·Memᴰ h (partitionAt l r .objects)
-      → part (splice m (p * quarter M + a) new) (r * quarter M + h .object .start) (h .object .size) ≡ h .bytes
+      → (r : ℕ) (h : LedgerObject) → (r ≡ p → ⊥) → In r h → Held M (splice m (p * quarter M + a) new) r h
   elsewhere p a new hp ha r h ne k =
-      part-apart m new (p * quarter M + a) (r * quarter M + h .object .start) (h .object .size)
-      (omega (arith, quarter-in M p hp, g .size)) (inside r h k) (go (decLt p r))
-      ∙ g .bytes r h k
+      untouched r (p * quarter M + a) new h k (omega (arith, quarter-in M p hp, g .size)) (go (decLt p r))
     where
       go : Dec (p < r) → (p * quarter M + a + length new ≤ r * quarter M + h .object .start)
           ⊎ (r * quarter M + h .object .start + h .object .size ≤ p * quarter M + a)
       go (yes e) = inl (omega (arith, quarter-below (quarter M) p r e))
       go (no e) =
           let e′ : r < p = omega arith in
-          inr (omega (arith, quarter-below (quarter M) r p e′, held-sound r h k .inside))
+          inr (omega (arith, quarter-below (quarter M) r p e′, sound-in r h k .inside))
 
   -- the bytes after one partition has changed: there, and elsewhere
   bytes-at : (x : Fields) (s : Scope LedgerObject) (m′ : List ℕ) → x .cred .partition < 4
-      → ((h : LedgerObject) → List·Memᴰ h (s .partition .objects)
-      → part m′ (x .cred .partition * quarter M + h .object .start) (h .object .size) ≡ h .bytes)
-      → ((r : ℕ) (h : LedgerObject) → (r ≡ x .cred .partition → ⊥) → List·Memᴰ h (partitionAt l r .objects)
-      → part m′ (r * quarter M + h .object .start) (h .object .size) ≡ h .bytes)
-      → Bytes M m′ (withScope (x .cred) s l)
+      → ((h : LedgerObject) → List·Memᴰ h (s .partition .objects) → Held M m′ (x .cred .partition) h)
+      → ((r : ℕ) (h : LedgerObject) → (r ≡ x .cred .partition → ⊥) → In r h → Held M m′ r h)
+      → (r : ℕ) (h : LedgerObject) → List·Memᴰ h (partitionAt (withScope (x .cred) s l) r .objects) → Held M m′ r h
   bytes-at x s m′ hp here there r h k = go (ℕ-discrete r p)
     where
       p : ℕ
@@ -197,7 +132,7 @@ module _ (M : ℕ) (m : List ℕ) (l : Ledger) (g : Good M m l) where
       new : Partition LedgerObject → Partition LedgerObject
       new old = s .partition
 
-      go : Dec (r ≡ p) → part m′ (r * quarter M + h .object .start) (h .object .size) ≡ h .bytes
+      go : Dec (r ≡ p) → Held M m′ r h
       go (yes e) =
           rw e (here h (subst (λ (s : Partition LedgerObject). List·Memᴰ h (s .objects))
           (nth-update p new (l .partitions) (emptyPartition 0) (omega (arith, g .four)))
@@ -205,77 +140,71 @@ module _ (M : ℕ) (m : List ℕ) (l : Ledger) (g : Good M m l) where
       go (no e) = there r h e (subst (λ (s : Partition LedgerObject). List·Memᴰ h (s .objects))
           (nth-update-other p r new (l .partitions) (emptyPartition 0) e) k)
 
-  still : (p : ℕ) (r : ℕ) (h : LedgerObject) → (r ≡ p → ⊥) → List·Memᴰ h (partitionAt l r .objects)
-      → part m (r * quarter M + h .object .start) (h .object .size) ≡ h .bytes
+  still : (p : ℕ) (r : ℕ) (h : LedgerObject) → (r ≡ p → ⊥) → In r h → Held M m r h
   still p r h e k = g .bytes r h k
 
   -- the ledger after a grant, and what its frame sees of it before, beside any memory
   abbrev after : Operation → Fields → Ledger
   after o x = withScope (x .cred) (ledgerPerform o (ledgerScope M l (x .cred)) x) l
 
+  -- and the bytes of all its objects, by the medium after the grant
+  abbrev BytesAfter : Operation → Fields → List ℕ → Type 0
+  BytesAfter o x m′ = (r : ℕ) (h : LedgerObject) → List·Memᴰ h (partitionAt (after o x) r .objects) → Held M m′ r h
+
   -- ---- 2. Write
   written-bytes : (x : Fields) (offset size : ℕ) (k : LedgerObject) → x .cred .partition < 4
-      → List·Memᴰ k (partitionAt l (x .cred .partition) .objects) → numberOf k ≡ x .cred .object
-      → offset + length (x .payload) ≤ k .object .size
-      → Bytes M (splice m (x .cred .partition * quarter M + k .object .start + offset) (x .payload))
-      (after (Write offset size) x)
-  unfolding ledgerPerform ledgerWritten withBytesWritten Lies
+      → In (x .cred .partition) k → numberOf k ≡ x .cred .object → offset + length (x .payload) ≤ k .object .size
+      → BytesAfter (Write offset size) x
+      (splice m (x .cred .partition * quarter M + k .object .start + offset) (x .payload))
+  unfolding ledgerPerform ledgerWritten withBytesWritten
   written-bytes x offset size k hp i e fit =
       bytes-at x (ledgerPerform (Write offset size) (ledgerScope M l (x .cred)) x) m′ hp (λ h j. here h
       (member-change numberOf (x .cred .object) (withBytesWritten offset (x .payload)) (partitionAt l p .objects) h j))
-      (λ r h ne j. subst (λ (n : ℕ). part (splice m n (x .payload)) (r * quarter M + h .object .start)
-      (h .object .size) ≡ h .bytes)
-      (sym (add-assoc (p * quarter M) (k .object .start) (offset)))
-      (elsewhere p (k .object .start + offset) (x .payload) hp (omega (arith, held-sound p k i .inside)) r h ne j))
+      (λ r h ne j. subst (λ (n : ℕ). Held M (splice m n (x .payload)) r h)
+      (sym (add-assoc (p * quarter M) (k .object .start) offset))
+      (elsewhere p (k .object .start + offset) (x .payload) hp (omega (arith, sound-in p k i .inside)) r h ne j))
     where
       p : ℕ
       p = x .cred .partition
 
+      at : ℕ
+      at = p * quarter M + k .object .start + offset
+
       m′ : List ℕ
-      m′ = splice m (p * quarter M + k .object .start + offset) (x .payload)
+      m′ = splice m at (x .payload)
 
-      away : (h : LedgerObject) → List·Memᴰ h (partitionAt l p .objects) → Lies (k .object) (h .object)
-          → part m′ (p * quarter M + h .object .start) (h .object .size) ≡ h .bytes
-      away h j (inl a) =
-          part-apart m (x .payload) (p * quarter M + k .object .start + offset) (p * quarter M + h .object .start)
-          (h .object .size)
-          (omega (arith, inside p k i)) (inside p h j) (inl (omega arith))
-          ∙ g .bytes p h j
-      away h j (inr a) =
-          part-apart m (x .payload) (p * quarter M + k .object .start + offset) (p * quarter M + h .object .start)
-          (h .object .size)
-          (omega (arith, inside p k i)) (inside p h j) (inr (omega arith))
-          ∙ g .bytes p h j
+      away : (h : LedgerObject) → In p h → Disjoint (k .object) (h .object) → Held M m′ p h
+      away h j (inl a) = untouched p at (x .payload) h j (omega (arith, inside p k i)) (inl (omega arith))
+      away h j (inr a) = untouched p at (x .payload) h j (omega (arith, inside p k i)) (inr (omega arith))
 
-      it : part m′ (p * quarter M + k .object .start) (k .object .size) ≡ splice (k .bytes) (offset) (x .payload)
+      it : part m′ (p * quarter M + k .object .start) (k .object .size) ≡ splice (k .bytes) offset (x .payload)
       it =
-          part-inside m (x .payload) (p * quarter M + k .object .start) (offset) (k .object .size) fit
-          (inside p k i)
-          ∙ ap (λ (b : List ℕ). splice b (offset) (x .payload)) (g .bytes p k i)
+          part-inside m (x .payload) (p * quarter M + k .object .start) offset (k .object .size) fit (inside p k i)
+          ∙ ap (λ (b : List ℕ). splice b offset (x .payload)) (g .bytes p k i)
 
       here : (h : LedgerObject)
-          → (List·Memᴰ h (partitionAt l p .objects) × (numberOf h ≡ x .cred .object → ⊥))
-          ⊎ ((b : LedgerObject) × List·Memᴰ b (partitionAt l p .objects) × (numberOf b ≡ x .cred .object)
-          × (h ≡ withBytesWritten offset (x .payload) b))
-          → part m′ (p * quarter M + h .object .start) (h .object .size) ≡ h .bytes
-      here h (inl r) = away h (r .0) (lie-apart p h k (r .0) i (λ f. r .1 (f ∙ e)))
+          → (In p h × (numberOf h ≡ x .cred .object → ⊥))
+          ⊎ ((b : LedgerObject) × In p b × (numberOf b ≡ x .cred .object) × (h ≡ withBytesWritten offset (x .payload) b))
+          → Held M m′ p h
+      here h (inl r) = away h (r .0) (members-disjoint (sound-at p) (Memᴰ·map LedgerObject.object i)
+          (Memᴰ·map LedgerObject.object (r .0)) (λ f. r .1 (sym f ∙ e)))
       here h (inr r) =
-          subst (λ (h : LedgerObject). part m′ (p * quarter M + h .object .start) (h .object .size) ≡ h .bytes)
+          subst (Held M m′ p)
           (sym (r .3 ∙ ap (withBytesWritten offset (x .payload)) (unique p (r .0) k (r .1) i (r .2 ∙ sym e)))) it
 
   write-bytes : (es : List Entry) (x : Fields) (offset size : ℕ) → x .cred .partition < 4
       → CanWrite (sees M l es (x .cred)) x offset size
-      → Bytes M (splice m (extentStart (sees M l es (x .cred)) (x .cred) + offset) (x .payload)) (after (Write offset size) x)
+      → BytesAfter (Write offset size) x (splice m (extentStart (sees M l es (x .cred)) (x .cred) + offset) (x .payload))
   unfolding extentStart objectOf namedObject
   write-bytes es x offset size hp c =
       let p : Partition LedgerObject = partitionAt l (x .cred .partition) in
       let n : ℕ = x .cred .object in
       rw (the-object p n (c .there))
-      (written-bytes x offset size (the-held p n (c .there) .0) hp (the-held p n (c .there) .2) (the-held p n (c .there) .3)
+      (written-bytes x offset size (the-ledger-object p n (c .there) .0) hp (the-ledger-object p n (c .there) .2) (the-ledger-object p n (c .there) .3)
       (omega (arith, c .len, c .fits, ap Object.size (the-object p n (c .there)))))
 
   -- ---- 4. Raise
-  raise-bytes : (x : Fields) → x .cred .partition < 4 → Bytes M m (after Raise x)
+  raise-bytes : (x : Fields) → x .cred .partition < 4 → BytesAfter Raise x m
   unfolding ledgerPerform ledgerRaised
   raise-bytes x hp =
       bytes-at x (ledgerPerform Raise (ledgerScope M l (x .cred)) x) m hp (λ h j. here h (x .cred .object is 0) j) (still p)
@@ -287,18 +216,16 @@ module _ (M : ℕ) (m : List ℕ) (l : Ledger) (g : Good M m l) where
       v = partitionAt l p .last + 1
 
       each : (h : LedgerObject)
-          → (List·Memᴰ h (partitionAt l p .objects) × (numberOf h ≡ x .cred .object → ⊥))
-          ⊎ ((b : LedgerObject) × List·Memᴰ b (partitionAt l p .objects) × (numberOf b ≡ x .cred .object)
-          × (h ≡ ledgerWithVersion v b))
-          → part m (p * quarter M + h .object .start) (h .object .size) ≡ h .bytes
+          → (In p h × (numberOf h ≡ x .cred .object → ⊥))
+          ⊎ ((b : LedgerObject) × In p b × (numberOf b ≡ x .cred .object) × (h ≡ ledgerWithVersion v b))
+          → Held M m p h
       each h (inl r) = g .bytes p h (r .0)
-      each h (inr r) = subst (λ (h : LedgerObject). part m (p * quarter M + h .object .start) (h .object .size) ≡ h .bytes)
-          (sym (r .3)) (g .bytes p (r .0) (r .1))
+      each h (inr r) = subst (Held M m p) (sym (r .3)) (g .bytes p (r .0) (r .1))
 
       here : (h : LedgerObject) (b : Bool)
           → List·Memᴰ h (cond b (partitionAt l p .objects)
           (change numberOf (x .cred .object) (ledgerWithVersion v) (partitionAt l p .objects)))
-          → part m (p * quarter M + h .object .start) (h .object .size) ≡ h .bytes
+          → Held M m p h
       here h true j = g .bytes p h j
       here h false j = each h (member-change numberOf (x .cred .object) (ledgerWithVersion v)
           (partitionAt l p .objects) h j)
@@ -306,8 +233,8 @@ module _ (M : ℕ) (m : List ℕ) (l : Ledger) (g : Good M m l) where
   -- ---- 5. Create
   create-bytes : (es : List Entry) (x : Fields) (number size : ℕ) → x .cred .partition < 4
       → CanCreate (sees M l es (x .cred)) number size
-      → Bytes M (splice m (x .cred .partition * quarter M + placementStart (sees M l es (x .cred)) size) (replicate size 0))
-      (after (Create number size) x)
+      → BytesAfter (Create number size) x
+      (splice m (x .cred .partition * quarter M + placementStart (sees M l es (x .cred)) size) (replicate size 0))
   unfolding ledgerPerform ledgerCreated placementStart placement
   create-bytes es x number size hp c =
       bytes-at x (ledgerPerform (Create number size) (ledgerScope M l (x .cred)) x) m′ hp
@@ -343,37 +270,28 @@ module _ (M : ℕ) (m : List ℕ) (l : Ledger) (g : Good M m l) where
       room : p * quarter M + s + length zeros ≤ length m
       room = omega (arith, len, quarter-in M p hp, g .size, c .place .inside)
 
-      clear : (h : LedgerObject) → List·Memᴰ h (partitionAt l p .objects) → clearOf s size (h .object) ≡ true
-      clear h j =
-          every-member (λ (a : LedgerObject). clearOf s size (a .object)) (partitionAt l p .objects) h
-          (every-unmap (clearOf s size) LedgerObject.object (partitionAt l p .objects) (c .place .clear)) j
+      clear : (h : LedgerObject) → In p h → clearOf s size (h .object) ≡ true
+      clear h j = every-member (clearOf s size) (bare (partitionAt l p) .objects) (h .object) (c .place .clear)
+          (Memᴰ·map LedgerObject.object j)
 
-      away : (h : LedgerObject) → List·Memᴰ h (partitionAt l p .objects)
+      away : (h : LedgerObject) → In p h
           → (leb (h .object .start + h .object .size) s ≡ true) ⊎ (leb (s + size) (h .object .start) ≡ true)
-          → part m′ (p * quarter M + h .object .start) (h .object .size) ≡ h .bytes
-      away h j (inl a) =
-          part-apart m zeros (p * quarter M + s) (p * quarter M + h .object .start) (h .object .size) room
-          (inside p h j)
+          → Held M m′ p h
+      away h j (inl a) = untouched p (p * quarter M + s) zeros h j room
           (inr (omega (arith, leb-true (h .object .start + h .object .size) s a)))
-          ∙ g .bytes p h j
-      away h j (inr a) =
-          part-apart m zeros (p * quarter M + s) (p * quarter M + h .object .start) (h .object .size) room
-          (inside p h j)
+      away h j (inr a) = untouched p (p * quarter M + s) zeros h j room
           (inl (omega (arith, len, leb-true (s + size) (h .object .start) a)))
-          ∙ g .bytes p h j
 
       it : part m′ (p * quarter M + s) size ≡ zeros
       it = subst (λ (n : ℕ). part m′ (p * quarter M + s) n ≡ zeros) len (part-new m zeros (p * quarter M + s) room)
 
-      here : (h : LedgerObject) → List·Memᴰ h (partitionAt l p .objects) ⊎ List·Memᴰ h (new ∷ [])
-          → part m′ (p * quarter M + h .object .start) (h .object .size) ≡ h .bytes
+      here : (h : LedgerObject) → In p h ⊎ List·Memᴰ h (new ∷ []) → Held M m′ p h
       here h (inl j) = away h j (or-cases (leb (h .object .start + h .object .size) s)
           (leb (s + size) (h .object .start)) (clear h j))
-      here h (inr j) = subst (λ (h : LedgerObject). part m′ (p * quarter M + h .object .start) (h .object .size) ≡ h .bytes)
-          (sym (List·Memᴰ·eq-of-singleton j)) it
+      here h (inr j) = subst (Held M m′ p) (sym (List·Memᴰ·eq-of-singleton j)) it
 
   -- ---- 6. Delete
-  delete-bytes : (x : Fields) → x .cred .partition < 4 → Bytes M m (after Delete x)
+  delete-bytes : (x : Fields) → x .cred .partition < 4 → BytesAfter Delete x m
   unfolding ledgerPerform ledgerDeleted
   delete-bytes x hp =
       bytes-at x (ledgerPerform Delete (ledgerScope M l (x .cred)) x) m hp
@@ -382,13 +300,15 @@ module _ (M : ℕ) (m : List ℕ) (l : Ledger) (g : Good M m l) where
 
   -- ---- nothing changes there
   same-bytes : (x : Fields) → x .cred .partition < 4 → (keys : Keys)
-      → Bytes M m (withScope (x .cred) (withKeys keys (ledgerScope M l (x .cred))) l)
+      → (r : ℕ) (h : LedgerObject)
+      → List·Memᴰ h (partitionAt (withScope (x .cred) (withKeys keys (ledgerScope M l (x .cred))) l) r .objects)
+      → Held M m r h
   same-bytes x hp keys =
       bytes-at x (withKeys keys (ledgerScope M l (x .cred))) m hp (g .bytes (x .cred .partition)) (still (x .cred .partition))
 
   -- ---- all
   bytes-after : (o : Operation) (es : List Entry) (x : Fields) → Grant o (sees M l es (x .cred)) x
-      → Bytes M (perform o (sees M l es (x .cred)) x m .medium) (after o x)
+      → BytesAfter o x (perform o (sees M l es (x .cred)) x m .medium)
   unfolding perform ledgerPerform
   bytes-after (Read a b) es x c = same-bytes x (c .partition) (l .keys)
   bytes-after (Write a b) es x c = write-bytes es x a b (c .partition) (c .writes a b refl)
@@ -413,7 +333,7 @@ module _ (M : ℕ) (m : List ℕ) (l : Ledger) (g : Good M m l) where
         w .fits,
         ap Object.size (the-object p n (w .there)),
         ap Object.start (the-object p n (w .there)),
-        inside (x .cred .partition) (the-held p n (w .there) .0) (the-held p n (w .there) .2),
+        inside (x .cred .partition) (the-ledger-object p n (w .there) .0) (the-ledger-object p n (w .there) .2),
       ))
       ∙ g .size
   size-after Look es x c = g .size
@@ -441,9 +361,9 @@ module _ (M : ℕ) (m : List ℕ) (l : Ledger) (g : Good M m l) where
       (subst (λ (s : Scope Object). soundPartition (quarter M) (s .partition) ≡ true)
       (bare-after o (ledgerScope M l (x .cred)) es x m) (scope-sound o s x m h (c .creates))) (g .sound))
 
-  pub good-after : (o : Operation) (es : List Entry) (x : Fields) → Grant o (sees M l es (x .cred)) x
-      → Good M (perform o (sees M l es (x .cred)) x m .medium) (after o x)
-  good-after o es x c = record {
+  pub consistent-after : (o : Operation) (es : List Entry) (x : Fields) → Grant o (sees M l es (x .cred)) x
+      → Consistent M (perform o (sees M l es (x .cred)) x m .medium) (after o x)
+  consistent-after o es x c = record {
     size = size-after o es x c;
     four = length-update (x .cred .partition)
         (λ (old : Partition LedgerObject). ledgerPerform o (ledgerScope M l (x .cred)) x .partition) (l .partitions) ∙ g .four;

@@ -1,6 +1,6 @@
--- A granted nonce stays known: its memory holds it until its time and 5,000 are under the mark, and from then on row
--- 11 refuses it.
-use mathlib.Core.Path.{_∙_, _≡_, ap, refl, subst, sym}
+-- A granted nonce stays known: its memory has it until its time and 5,000 are under the mark, and from then on row 11
+-- refuses it.
+use mathlib.Core.Path.{_∙_, _≡_, ap, subst, sym}
 use mathlib.Core.Logic.{_⊎_, inl, inr}
 use mathlib.Core.Bool.{false, false≢true, true}
 use mathlib.Core.List.{[], List}
@@ -24,7 +24,7 @@ use Rattle.rules.specs.Rows.{row11, row12}
 use Rattle.rules.specs.Scope.{driveWithScope, Scope, driveScope, withMemory}
 use Rattle.rules.proofs.Clear.{clear11, clear12, in-five}
 use Rattle.rules.proofs.Memories.{remember-has, remember-keeps, same-entry, still-lives}
-use Rattle.rules.proofs.Step.{clear-of, fresh, fresh-inv, Inv, row-zero, rowOf, step-granted, step-refused}
+use Rattle.rules.proofs.Step.{clear-of, fresh, fresh-inv, Invariant, row-zero, rowOf, step-granted, step-refused}
 
 -- the memory holds the nonce, or it is outlived
 abbrev pub Known : Nonce → Drive → Type 0
@@ -66,12 +66,12 @@ known-granted n x d a h (inl k) = go (ℕ-discrete (n .memory) (memoryIndex (x .
     go (no e) = inl (ap (some? (sameEntry (n .entry)))
         (nth-update-other (memoryIndex (x .cred)) (n .memory) new (d .memories) [] e) ∙ k)
 
-module _ (M : ℕ) (s : State) (l : Ledger) (c : Call) (v : Inv M s l) where
+module _ {M : ℕ} {s : State} {l : Ledger} (v : Invariant M s l) (c : Call) where
   abbrev x : Fields
   x = fields (c .frame)
 
   in-memory : rowOf s c ≡ 0 → memoryIndex (fields (c .frame) .cred) < length (fresh s c .memories)
-  in-memory e = omega (arith, in-five (clear-of M s l c v e), fresh-inv M s l c v .five)
+  in-memory e = omega (arith, in-five (clear-of v c e), fresh-inv v c .five)
 
   -- every call leaves a known nonce known
   pub step-known : (n : Nonce) → Known n (s .drive) → Known n (step s c .drive)
@@ -81,19 +81,19 @@ module _ (M : ℕ) (s : State) (l : Ledger) (c : Call) (v : Inv M s l) where
       go : (rowOf s c is 0 ≡ true) ⊎ (rowOf s c is 0 ≡ false) → Known n (step s c .drive)
       go (inl b) =
           let e : rowOf s c ≡ 0 = eqb-true (rowOf s c) 0 b in
-          subst (λ (t : State). Known n (t .drive)) (sym (step-granted M s l c v e))
+          subst (λ (t : State). Known n (t .drive)) (sym (step-granted v c e))
           (known-granted n x (fresh s c) (perform (callOperation c) (driveScope (fresh s c) (x .cred)) x (s .medium) .scope) (in-memory e)
           (known-refreshed n (s .drive) (c .clock) k))
       go (inr b) =
-          subst (λ (t : State). Known n (t .drive)) (sym (step-refused M s l c v (eqb-false (rowOf s c) 0 b)))
+          subst (λ (t : State). Known n (t .drive)) (sym (step-refused v c (eqb-false (rowOf s c) 0 b)))
           (known-refreshed n (s .drive) (c .clock) k)
 
   -- a granted one becomes known
   pub granted-known : answer s c .row ≡ 0 → Known (nonce c) (step s c .drive)
   unfolding nonce granted
   granted-known r =
-      let e : rowOf s c ≡ 0 = row-zero M s l c v r in
-      subst (λ (t : State). Known (nonce c) (t .drive)) (sym (step-granted M s l c v e))
+      let e : rowOf s c ≡ 0 = row-zero v c r in
+      subst (λ (t : State). Known (nonce c) (t .drive)) (sym (step-granted v c e))
       (inl (ap (some? (sameEntry (entry (x .cred) (x .req)))) (nth-update (memoryIndex (x .cred))
       (λ (old : List Entry). remember x (driveScope (fresh s c) (x .cred) .memory)) (fresh s c .memories) [] (in-memory e))
       ∙ remember-has (sameEntry (entry (x .cred) (x .req))) x (getD (fresh s c .memories) (memoryIndex (x .cred)) []) (same-entry (entry (x .cred) (x .req)))))
@@ -104,13 +104,13 @@ module _ (M : ℕ) (s : State) (l : Ledger) (c : Call) (v : Inv M s l) where
   known-not-granted k r = go (known-refreshed (nonce c) (s .drive) (c .clock) k)
     where
       e : rowOf s c ≡ 0
-      e = row-zero M s l c v r
+      e = row-zero v c r
 
       go : Known (nonce c) (fresh s c) → ⊥
-      go (inl h) = false≢true (sym (clear12 (clear-of M s l c v e)) ∙ h)
+      go (inl h) = false≢true (sym (clear12 (clear-of v c e)) ∙ h)
       go (inr h) =
           let late : (fields (c .frame) .req .time + 5000 under fresh s c .tables .highWater) ≡ false =
-          search (or-l, clear11 (clear-of M s l c v e)) in
+          search (or-l, clear11 (clear-of v c e)) in
           absurd (outlived (ltb-false (fields (c .frame) .req .time + 5000) (fresh s c .tables .highWater) late) h)
         where
           outlived : fresh s c .tables .highWater ≤ fields (c .frame) .req .time + 5000

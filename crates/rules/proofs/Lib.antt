@@ -1,5 +1,5 @@
--- The theorems over document 01's definitions. `Answers` has demand 1, `Demand` demand 3, `Story` the customer's story.
--- A list of calls computed is a crate of its own, `worked`.
+-- The theorems over document 01's definitions: demand 1 (`Answers`), demand 2 (`RoundTrip`, `RepliesBack`), demand 3
+-- (`Demand`), the placing rule (`Placing`), the customer's story (`OneLog`). The other files lead to these.
 pub mod Answers
 pub mod Gaps
 pub mod Placing

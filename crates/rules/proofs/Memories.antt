@@ -1,6 +1,5 @@
 -- The replay memories: a grant's entry is there and drops no other; an entry stays while its time and 5,000 are at
--- least the mark; row 22
--- leaves room for one more.
+-- least the mark; row 22 leaves room for one more.
 use mathlib.Core.Path.{_≡_, refl, subst}
 use mathlib.Core.Bool.{Bool, false, true}
 use mathlib.Core.List.{[], _∷_, List, map}

@@ -25,13 +25,13 @@ use Rattle.rules.specs.Story.{
 }
 use Rattle.rules.proofs.Clear.{asks-for}
 use Rattle.rules.proofs.Versions.{
-  all-kept,
-  Beyond,
-  beyond-step,
+  all-fed,
+  VersionsFrom,
+  versions-from-step,
   bytes-step,
-  Kept,
-  kept-rest,
-  kept-sane,
+  FedByGate,
+  fed-rest,
+  fed-sane,
   last-step,
   next-step,
   renew-step,
@@ -45,66 +45,66 @@ ledger-append M l [] b = refl
 ledger-append M l (c ∷ cs) b = ledger-append M (feed M l c) cs b
 
 -- ---- any number of calls
-rises-run : (M : ℕ) (l : Ledger) (between later : List Fed) (p : ℕ) → Kept M l (between ++ later)
+rises-run : (M : ℕ) (l : Ledger) (between later : List Fed) (p : ℕ) → FedByGate M l (between ++ later)
     → lastOf l p ≤ lastOf (ledger M l between) p
-unfolding Kept ledger
+unfolding FedByGate ledger
 rises-run M l [] later p k = omega arith
 rises-run M l (c ∷ cs) later p k =
-    omega (arith, last-step M l c (k .0) (k .1) p, rises-run M (feed M l c) cs later p (k .2))
+    omega (arith, last-step M (k .0) p, rises-run M (feed M l c) cs later p (k .1))
 
-beyond-run : (M : ℕ) (l : Ledger) (between later : List Fed) (w p n : ℕ) → Kept M l (between ++ later)
-    → Beyond w p n l → Beyond w p n (ledger M l between)
-unfolding Kept ledger
-beyond-run M l [] later w p n k b = b
-beyond-run M l (c ∷ cs) later w p n k b =
-    beyond-run M (feed M l c) cs later w p n (k .2) (beyond-step M l c (k .0) (k .1) w p n b)
+versions-from-run : (M : ℕ) (l : Ledger) (between later : List Fed) (w p n : ℕ) → FedByGate M l (between ++ later)
+    → VersionsFrom w p n l → VersionsFrom w p n (ledger M l between)
+unfolding FedByGate ledger
+versions-from-run M l [] later w p n k b = b
+versions-from-run M l (c ∷ cs) later w p n k b =
+    versions-from-run M (feed M l c) cs later w p n (k .1) (versions-from-step M (k .0) w p n b)
 
-renewed-run : (M : ℕ) (l : Ledger) (between later : List Fed) (e : Fed) (v p n : ℕ) → Kept M l (between ++ later)
-    → List·Memᴰ e between → Renews p n e → v ≤ lastOf l p → Beyond (v + 1) p n (ledger M l between)
-unfolding Kept ledger
+renewed-run : (M : ℕ) (l : Ledger) (between later : List Fed) (e : Fed) (v p n : ℕ) → FedByGate M l (between ++ later)
+    → List·Memᴰ e between → Renews p n e → v ≤ lastOf l p → VersionsFrom (v + 1) p n (ledger M l between)
+unfolding FedByGate ledger
 renewed-run M l (c ∷ cs) later e v p n k (List·Memᴰ·head q) r h =
-    beyond-run M (feed M l c) cs later (v + 1) p n (k .2)
-    (renew-step M l c (k .0) (k .1) v p n (subst (Renews p n) q r) h)
+    versions-from-run M (feed M l c) cs later (v + 1) p n (k .1)
+    (renew-step M (k .0) v p n (subst (Renews p n) q r) h)
 renewed-run M l (c ∷ cs) later e v p n k (List·Memᴰ·tail m) r h =
-    renewed-run M (feed M l c) cs later e v p n (k .2) m r (omega (arith, h, last-step M l c (k .0) (k .1) p))
+    renewed-run M (feed M l c) cs later e v p n (k .1) m r (omega (arith, h, last-step M (k .0) p))
 
-bytes-run : (M : ℕ) (l : Ledger) (between later : List Fed) (p n : ℕ) → Kept M l (between ++ later)
+bytes-run : (M : ℕ) (l : Ledger) (between later : List Fed) (p n : ℕ) → FedByGate M l (between ++ later)
     → ((e : Fed) → List·Memᴰ e between → Renews p n e → ⊥)
     → bytesIn (partitionAt (ledger M l between) p) n ≡ rewritten p n between (bytesIn (partitionAt l p) n)
-unfolding Kept ledger rewritten
+unfolding FedByGate ledger rewritten
 bytes-run M l [] later p n k r = refl
 bytes-run M l (c ∷ cs) later p n k r =
-    bytes-run M (feed M l c) cs later p n (k .2) (λ e m. r e (List·Memᴰ·tail m))
-    ∙ ap (rewritten p n cs) (bytes-step M l c (k .0) (k .1) p n (r c (List·Memᴰ·head refl)))
+    bytes-run M (feed M l c) cs later p n (k .1) (λ e m. r e (List·Memᴰ·tail m))
+    ∙ ap (rewritten p n cs) (bytes-step M (k .0) p n (r c (List·Memᴰ·head refl)))
 
 -- ---- a use names the version that is there
-used : (M : ℕ) (l : Ledger) (c : Fed) (later : List Fed) (p n v : ℕ) → Kept M l (c ∷ later) → Uses p n v c
+used : (M : ℕ) (l : Ledger) (c : Fed) (later : List Fed) (p n v : ℕ) → FedByGate M l (c ∷ later) → Uses p n v c
     → versionOf l p n ≡ some v
-unfolding Kept
+unfolding FedByGate
 used M l c later p n v k u =
     subst₂ (λ (q i : ℕ). versionOf l q i ≡ some v) (u .partition) (u .object)
-    (k .1 (u .granted) .version (omega (arith, u .operation)) ∙ ap some (u .version))
+    (k .0 .passes (u .granted) .version (omega (arith, u .operation)) ∙ ap some (u .version))
 
-there-beyond : (l : Ledger) (p n v : ℕ) → Sane l → versionOf l p n ≡ some v → Beyond v p n l
-there-beyond l p n v s e = record {
+there-versions-from : (l : Ledger) (p n v : ℕ) → Sane l → versionOf l p n ≡ some v → VersionsFrom v p n l
+there-versions-from l p n v s e = record {
   last = omega (arith, s .given p n v e);
   version = λ u f. omega (arith, Option·some-injective v u (sym e ∙ f));
 }
 
 same-run : (M : ℕ) (l : Ledger) (between later : List Fed) (d e : Fed) (p n v u : ℕ)
-    → Kept M l (between ++ (d ∷ later)) → Beyond v p n l → List·Memᴰ e between → Uses p n u e → Uses p n v d → u ≡ v
-unfolding Kept ledger
+    → FedByGate M l (between ++ (d ∷ later)) → VersionsFrom v p n l → List·Memᴰ e between → Uses p n u e → Uses p n v d → u ≡ v
+unfolding FedByGate ledger
 same-run M l (c ∷ cs) later d e p n v u k b (List·Memᴰ·head q) ue ud =
     let there : versionOf l p n ≡ some u = used M l c (cs ++ (d ∷ later)) p n u k (subst (Uses p n u) q ue) in
-    let on : Beyond u p n (ledger M l (c ∷ cs)) =
-    beyond-run M l (c ∷ cs) (d ∷ later) u p n k (there-beyond l p n u (k .0) there) in
+    let on : VersionsFrom u p n (ledger M l (c ∷ cs)) =
+    versions-from-run M l (c ∷ cs) (d ∷ later) u p n k (there-versions-from l p n u (k .0 .sane) there) in
     omega (
       arith,
       b .version u there,
-      on .version v (used M (ledger M l (c ∷ cs)) d later p n v (kept-rest M l (c ∷ cs) (d ∷ later) k) ud),
+      on .version v (used M (ledger M l (c ∷ cs)) d later p n v (fed-rest M l (c ∷ cs) (d ∷ later) k) ud),
     )
 same-run M l (c ∷ cs) later d e p n v u k b (List·Memᴰ·tail m) ue ud =
-    same-run M (feed M l c) cs later d e p n v u (k .2) (beyond-step M l c (k .0) (k .1) v p n b) m ue ud
+    same-run M (feed M l c) cs later d e p n v u (k .1) (versions-from-step M (k .0) v p n b) m ue ud
 
 -- a use renews nothing
 renews-none : (p n v : ℕ) (c : Fed) → Uses p n v c → Renews p n c → ⊥
@@ -118,12 +118,12 @@ renews-none p n v c u r = go (r .object)
     go (inl (inr k)) = omega (arith, u .operation, asks-for (x .req) (Create n (k .0)) (k .1) .0)
     go (inr k) = omega (arith, u .operation, asks-for (x .req) Delete (k .0))
 
-module _ (M : ℕ) (l : Ledger) (calls : List Fed) (k : Kept M l calls) where
-  rest : (before later : List Fed) → calls ≡ before ++ later → Kept M (ledger M l before) later
-  rest before later q = kept-rest M l before later (subst (Kept M l) q k)
+module _ (M : ℕ) (l : Ledger) (calls : List Fed) (k : FedByGate M l calls) where
+  rest : (before later : List Fed) → calls ≡ before ++ later → FedByGate M (ledger M l before) later
+  rest before later q = fed-rest M l before later (subst (FedByGate M l) q k)
 
   once-of : VersionsOnce M l calls
-  unfolding Kept ledger
+  unfolding FedByGate ledger
   once-of = record {
     rises = λ before between later p q.
         subst (λ (a : Ledger). lastOf (ledger M l before) p ≤ lastOf a p) (sym (ledger-append M l before between))
@@ -133,13 +133,13 @@ module _ (M : ℕ) (l : Ledger) (calls : List Fed) (k : Kept M l calls) where
         let was : ℕ = lastOf (ledger M l before) p in
         subst (λ (a : Ledger). (lastOf a p ≡ was + 1) × (versionOf a p n ≡ some (was + 1)))
         (sym (ledger-append M l before (c ∷ [])))
-        (next-step M (ledger M l before) c (h .0) (h .1) p n g);
+        (next-step M (h .0) p n g);
     given = λ before later p n v q e.
-        kept-sane M (ledger M l before) later (rest before later q) .given p n v e;
+        fed-sane M (ledger M l before) later (rest before later q) .given p n v e;
     once = λ before between later c p n v q e r f.
         let h = rest before (c ∷ (between ++ later)) q in
-        let b = beyond-run M (feed M (ledger M l before) c) between later (v + 1) p n (h .2)
-        (renew-step M (ledger M l before) c (h .0) (h .1) v p n r (h .0 .given p n v e)) in
+        let b = versions-from-run M (feed M (ledger M l before) c) between later (v + 1) p n (h .1)
+        (renew-step M (h .0) v p n r (h .0 .sane .given p n v e)) in
         below v (b .version v (ap (λ (a : Ledger). versionOf a p n) (sym (ledger-append M l before (c ∷ between)))
         ∙ f));
   }
@@ -151,10 +151,10 @@ module _ (M : ℕ) (l : Ledger) (calls : List Fed) (k : Kept M l calls) where
   between-uses : (before between later : List Fed) (c d e : Fed) (p n v : ℕ)
       → calls ≡ before ++ (c ∷ (between ++ (d ∷ later))) → Uses p n v c → Uses p n v d → List·Memᴰ e between
       → Renews p n e → ⊥
-  unfolding Kept ledger
+  unfolding FedByGate ledger
   between-uses before between later c d e p n v q uc ud m r =
       below (b .version v (used M (ledger M now between) d later p n v
-      (kept-rest M now between (d ∷ later) (h .2)) ud))
+      (fed-rest M now between (d ∷ later) (h .1)) ud))
     where
       was : Ledger
       was = ledger M l before
@@ -162,28 +162,28 @@ module _ (M : ℕ) (l : Ledger) (calls : List Fed) (k : Kept M l calls) where
       now : Ledger
       now = feed M was c
 
-      h : Kept M was (c ∷ (between ++ (d ∷ later)))
+      h : FedByGate M was (c ∷ (between ++ (d ∷ later)))
       h = rest before (c ∷ (between ++ (d ∷ later))) q
 
       old : v ≤ lastOf was p
-      old = h .0 .given p n v (used M was c (between ++ (d ∷ later)) p n v h uc)
+      old = h .0 .sane .given p n v (used M was c (between ++ (d ∷ later)) p n v h uc)
 
-      b : Beyond (v + 1) p n (ledger M now between)
-      b = renewed-run M now between (d ∷ later) e v p n (h .2) m r
-          (omega (arith, old, last-step M was c (h .0) (h .1) p))
+      b : VersionsFrom (v + 1) p n (ledger M now between)
+      b = renewed-run M now between (d ∷ later) e v p n (h .1) m r
+          (omega (arith, old, last-step M (h .0) p))
 
       below : v + 1 ≤ v → ⊥
       below z = omega arith
 
   one-of : OneLog M l calls
-  unfolding Kept ledger bytesOf
+  unfolding FedByGate ledger bytesOf
   one-of = record {
     unbroken = between-uses;
     same = λ before between later c d e p n v u q uc ud m ue.
         let was : Ledger = ledger M l before in
         let h = rest before (c ∷ (between ++ (d ∷ later))) q in
-        let b : Beyond v p n was = there-beyond was p n v (h .0) (used M was c (between ++ (d ∷ later)) p n v h uc) in
-        same-run M (feed M was c) between later d e p n v u (h .2) (beyond-step M was c (h .0) (h .1) v p n b) m ue
+        let b : VersionsFrom v p n was = there-versions-from was p n v (h .0 .sane) (used M was c (between ++ (d ∷ later)) p n v h uc) in
+        same-run M (feed M was c) between later d e p n v u (h .1) (versions-from-step M (h .0) v p n b) m ue
         ud;
     bytes = λ before between later c d p n v q uc ud.
         let was : Ledger = ledger M l before in
@@ -208,8 +208,8 @@ module _ (M : ℕ) (l : Ledger) (calls : List Fed) (k : Kept M l calls) where
 
 pub versions-once : OfEveryList VersionsOnce
 versions-once medium F master drive calls e =
-    once-of _ _ _ (all-kept medium F master drive calls e)
+    once-of _ _ _ (all-fed medium F master drive calls e)
 
 pub one-log : OfEveryList OneLog
 one-log medium F master drive calls e =
-    one-of _ _ _ (all-kept medium F master drive calls e)
+    one-of _ _ _ (all-fed medium F master drive calls e)

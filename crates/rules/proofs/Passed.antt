@@ -1,6 +1,5 @@
--- What rows 4, 6, 14, 15 and 18 leave of a granted call, by the ledger before it; and what a call does to each
--- partition of the ledger.
--- l: a ledger. c: a call that it is fed. p: a partition's number.
+-- What is known of a granted call by rows 4, 6, 14, 15 and 18, in terms of the ledger before it; and what a call does to
+-- each partition of the ledger. l: a ledger. c: a call that it is fed. p: a partition's number.
 use mathlib.Core.Path.{_∙_, _≡_, ap, refl, subst, sym}
 use mathlib.Core.Logic.{_⊎_, inl, inr}
 use mathlib.Core.Bool.{false, true}
@@ -16,7 +15,6 @@ use Rattle.rules.specs.declared.Entry.{Entry}
 use Rattle.rules.specs.declared.Object.{Object}
 use Rattle.rules.specs.Demands.{callFields, State}
 use Rattle.rules.specs.Drive.{Partition, partitionAt}
-use Rattle.rules.specs.declared.Operation.{Operation}
 use Rattle.rules.specs.declared.Operation.the-variants.{Raise, Write}
 use Rattle.rules.specs.Frame.{Fields, operationOf}
 use Rattle.rules.specs.Gate.{Call}
@@ -24,10 +22,10 @@ use Rattle.rules.specs.Ledger.{clocked, Fed, feed, LedgerObject, Ledger,
 use Rattle.rules.specs.Operations.{namedObject, objectOf, presentVersion}
 use Rattle.rules.specs.Scope.{Scope, driveScope}
 use Rattle.rules.specs.Story.{fedFields, versionIn, versionOf}
-use Rattle.rules.proofs.Bare.{missing-is, sees, the-held, the-object}
+use Rattle.rules.proofs.Bare.{missing-is, sees, the-ledger-object, the-object}
 use Rattle.rules.proofs.Clear.{asks-for, Clear, deletes-object, exists, number-free, version-is}
-use Rattle.rules.proofs.Renewal.{CanRenew, effect, partition-here, partition-there}
-use Rattle.rules.proofs.Step.{clear-of, entries, fresh, Inv, rowOf, sees-is, the-grant}
+use Rattle.rules.proofs.Renewal.{CanRenew, partitionAfter, partition-here, partition-there}
+use Rattle.rules.proofs.Step.{clear-of, entries, fresh, Invariant, rowOf, sees-is, the-grant}
 
 pub record Passed (l : Ledger) (x : Fields) : Type 0 where
   pub partition : x .cred .partition < 4
@@ -55,19 +53,19 @@ version-held M l es x h e = go (ℕ-discrete (x .cred .object) 0)
     go (yes z) = rw (eq-eqb n 0 z) (ap some (sym (e ∙ rw (eq-eqb n 0 z) refl)))
     go (no z) =
         rw (ne-eqb n 0 z)
-        (ap (Option·map (λ (k : LedgerObject). k .object .version)) (the-held p n (h z) .1)
+        (ap (Option·map (λ (k : LedgerObject). k .object .version)) (the-ledger-object p n (h z) .1)
         ∙ ap some (sym (e ∙ rw (ne-eqb n 0 z) (ap Object.version (the-object p n (h z))))))
 
-pub passed : (M : ℕ) (s : State) (l : Ledger) (c : Call) → Inv M s l → rowOf s c ≡ 0 → Passed l (callFields c)
+pub passed : {M : ℕ} {s : State} {l : Ledger} → Invariant M s l → (c : Call) → rowOf s c ≡ 0 → Passed l (callFields c)
 unfolding clocked namedObject
-passed M s l c v g = record {
-  partition = the-grant M s l c v g .partition;
+passed {M} {s} {l} v c g = record {
+  partition = the-grant v c g .partition;
   version = version;
-  writes = λ a b o. missing-is p (x .cred .object) ∙ the-grant M s l c v g .writes a b o .there;
+  writes = λ a b o. missing-is p (x .cred .object) ∙ the-grant v c g .writes a b o .there;
   renews = record {
     raises = λ o. version (omega (arith, asks-for (x .req) Raise o));
     creates = λ n size o. (
-      λ z. not-zero (the-grant M s l c v g .creates n size o .number-one) z,
+      λ z. not-zero (the-grant v c g .creates n size o .number-one) z,
       missing-is p n ∙ now (λ (t : Scope Object). missing (find Object.number n (t .partition .objects)) ≡ true)
           (number-free ok n size o),
     );
@@ -82,41 +80,41 @@ passed M s l c v g = record {
     p = partitionAt l (x .cred .partition)
 
     ok : Clear (c .frame) (driveScope (fresh s c) (x .cred)) (c .space)
-    ok = clear-of M s l c v g
+    ok = clear-of v c g
 
     now : (P : Scope Object → Type 0) → P (driveScope (fresh s c) (x .cred))
-        → P (sees M (clocked (c .clock) l) (entries M s l c v) (x .cred))
-    now P h = subst P (sees-is M s l c v) h
+        → P (sees M (clocked (c .clock) l) (entries v c) (x .cred))
+    now P h = subst P (sees-is v c) h
 
     version : x .req .operation ≤ 6
         → versionOf l (x .cred .partition) (x .cred .object) ≡ some (x .cred .version)
-    version h = version-held M (clocked (c .clock) l) (entries M s l c v) x
+    version h = version-held M (clocked (c .clock) l) (entries v c) x
         (λ z. now (λ (t : Scope Object). missing (namedObject t (x .cred)) ≡ false) (exists ok z))
         (now (λ (t : Scope Object). x .cred .version ≡ presentVersion t (x .cred)) (version-is ok h))
 
     not-zero : {n : ℕ} → 1 ≤ n → n ≡ 0 → ⊥
     not-zero h z = omega arith
 
--- ---- what a call does to partition p: the effect of its grant, or nothing
-pub record Here (M : ℕ) (l : Ledger) (c : Fed) (p : ℕ) : Type 0 where
+-- ---- what a call does to partition p: the partitionAfter of its grant, or nothing
+pub record Affected (M : ℕ) (l : Ledger) (c : Fed) (p : ℕ) : Type 0 where
   pub granted : c .row ≡ 0
   pub partition : fedFields c .cred .partition ≡ p
   pub effect : partitionAt (feed M l c) p
-      ≡ effect (operationOf (fedFields c)) M (fedFields c) (clocked (c .clock) l) (partitionAt l p)
+      ≡ partitionAfter (operationOf (fedFields c)) M (fedFields c) (clocked (c .clock) l) (partitionAt l p)
 
-pub record Still (M : ℕ) (l : Ledger) (c : Fed) (p : ℕ) : Type 0 where
+pub record Unaffected (M : ℕ) (l : Ledger) (c : Fed) (p : ℕ) : Type 0 where
   pub same : partitionAt (feed M l c) p ≡ partitionAt l p
   pub away : c .row ≡ 0 → fedFields c .cred .partition ≡ p → ⊥
 
-pub here-or-still : (M : ℕ) (l : Ledger) (c : Fed) (p : ℕ) → length (l .partitions) ≡ 4
-    → (c .row ≡ 0 → Passed l (fedFields c)) → Here M l c p ⊎ Still M l c p
+pub affected-or-not : (M : ℕ) (l : Ledger) (c : Fed) (p : ℕ) → length (l .partitions) ≡ 4
+    → (c .row ≡ 0 → Passed l (fedFields c)) → Affected M l c p ⊎ Unaffected M l c p
 unfolding feed clocked
-here-or-still M l c p four ok = go (ℕ-discrete (c .row) 0) (ℕ-discrete p (fedFields c .cred .partition))
+affected-or-not M l c p four ok = go (ℕ-discrete (c .row) 0) (ℕ-discrete p (fedFields c .cred .partition))
   where
     x : Fields
     x = fedFields c
 
-    go : Dec (c .row ≡ 0) → Dec (p ≡ x .cred .partition) → Here M l c p ⊎ Still M l c p
+    go : Dec (c .row ≡ 0) → Dec (p ≡ x .cred .partition) → Affected M l c p ⊎ Unaffected M l c p
     go (no r) d = inr (record { same = rw (ne-eqb (c .row) 0 r) refl; away = λ z e. r z })
     go (yes r) (yes e) = inl (record {
       granted = r;

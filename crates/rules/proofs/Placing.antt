@@ -1,10 +1,9 @@
--- The placing rule: what `bestFit` finds is the document's choice, and the document's choice is what it finds; row
--- 20 applies exactly
--- where no gap fits. Over any step from 1, for areas that are not empty. A new area is inside the quarter and meets
--- no other.
+-- The placing rule: what `bestFit` finds is the document's choice, and the document's choice is what it finds; row 20
+-- applies exactly where no gap fits. Over any step from 1, for extents that are not empty. A new extent is inside the
+-- quarter and meets no other.
 use mathlib.Core.Path.{_≡_, refl, sym, ap, _∙_, subst}
 use mathlib.Core.Logic.{_⊎_, inl, inr}
-use mathlib.Core.Bool.{Bool, true, false, _&&_, _||_, cond, true≢false, false≢true}
+use mathlib.Core.Bool.{Bool, true, false, _&&_, _||_, cond, true≢false}
 use mathlib.Core.Option.{Option, none, some, Option·map, Option·getD}
 use mathlib.Core.List.{List, [], _∷_, List·Memᴰ, List·Memᴰ·head, List·Memᴰ·tail}
 use Prim.Native.Nat.{ℕ, _+_, _-_, _*_, _/_, _%_, _≤_, _<_}
@@ -16,21 +15,7 @@ use Rattle.lemmas.specs.Tests.{_under_, _is_, and-l, and-r, or-l, or-r, or-case
 use Rattle.lemmas.specs.Lists.{every, keep, missing}
 use Rattle.lemmas.specs.ListLaws.{every-of, member-keep, keep-passes, keep-member}
 use Rattle.rules.specs.declared.Object.{Object}
-use Rattle.rules.specs.BestFit.{
-  Taken,
-  Gap,
-  IsGap,
-  gaps,
-  spot,
-  fits,
-  width,
-  NoWorse,
-  Chosen,
-  better,
-  betterOf,
-  bestOf,
-  bestFit,
-}
+use Rattle.rules.specs.BestFit.{Gap, IsGap, gaps, spot, fits, width, NoWorse, Chosen, better, bestOf, bestFit}
 use Rattle.rules.proofs.Gaps.{gaps-are}
 
 -- ---- the place in a gap is the first multiple of the step
@@ -205,8 +190,8 @@ module _ (step q : ℕ) (objects : List Object) (sized : (a : Object) → List·
       go none e = absurd (fit-none (ap missing e) (c .gap) (c .is-gap) (c .fits))
       go (some r) e = e ∙ ap some (unique r (fit-chosen r e))
 
--- ---- a new area is inside the quarter and meets no other
--- no area meets the B bytes from s on
+-- ---- a new extent is inside the quarter and meets no other
+-- an object's extent does not meet the B bytes from s on
 abbrev pub clearOf : ℕ → ℕ → Object → Bool
 clearOf s B a = leb (a .start + a .size) s || leb (s + B) (a .start)
 

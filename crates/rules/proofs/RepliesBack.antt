@@ -1,4 +1,4 @@
--- Demand 2: the reply that the gate's rules give to a built frame is one that the reply check accepts, with that
+-- Demand 2: the reply that the gate's rules give to a built frame is one that the reply check accepts, with the gate's
 -- result.
 use mathlib.Core.Path.{_∙_, _≡_, ap, refl, subst, sym}
 use mathlib.Core.Bool.{_&&_, _||_, Bool, cond, false, not, true}
@@ -10,12 +10,12 @@ use lib.ListN.{drop, length, length-append, take}
 use lib.Seq.{drop-at, take-all, take-at}
 use borrow.Author.Tests.{eq-eqb, le-ltb, leb-true}
 use Rattle.lemmas.specs.BigEndian.{bigEndian}
-use Rattle.lemmas.specs.ListLaws.{every-member, found}
+use Rattle.lemmas.specs.ListLaws.{found}
 use Rattle.lemmas.specs.Lists.{part, same, splice}
 use Rattle.lemmas.specs.Parts.{length-part}
 use Rattle.lemmas.specs.RowTable.{firstRow}
 use Rattle.lemmas.specs.Same.{same-refl}
-use Rattle.lemmas.specs.Tests.{_is_, _isnt_, _over_, and-l, and-r, or-intro-l}
+use Rattle.lemmas.specs.Tests.{_is_, _isnt_, _over_, or-intro-l}
 use Rattle.digest.specs.Hmac.{hmac}
 use Rattle.digest.specs.DigestLaws.{length-hmac}
 use Rattle.rules.specs.declared.Object.{Object}
@@ -23,10 +23,9 @@ use Rattle.rules.specs.declared.Operation.the-variants.{Read}
 use Rattle.rules.specs.declared.Request.{Request}
 use Rattle.rules.specs.Client.{badRecords, buildRows, check, checkRows, frameOf, row30}
 use Rattle.rules.specs.Demands.{RepliesBack}
-use Rattle.rules.specs.Drive.{Drive, Partition, quarter, refresh, sound, soundObject}
+use Rattle.rules.specs.Drive.{Drive, Partition, quarter, refresh, sound}
 use Rattle.rules.specs.Frame.{Fields, fields, operationOf, requestAt}
 use Rattle.rules.specs.Gate.{Answer, Call, gate, granted}
-use Rattle.rules.specs.Ledger.{ledgerStart}
 use Rattle.rules.specs.Operations.{
   credentialKey,
   extentStart,
@@ -50,7 +49,7 @@ use Rattle.rules.proofs.Holds.{quarter-in}
 use Rattle.rules.proofs.Keeps.{small-of, tables-of}
 use Rattle.rules.proofs.RoundTrip.{built-fields, key-long, parts, records}
 use Rattle.rules.proofs.Shown.{reply-length, result-length}
-use Rattle.rules.proofs.Sound.{at-sound, object-is, partition-is, SoundObject, SoundScope}
+use Rattle.rules.proofs.Sound.{at-sound, member-sound, partition-is, SoundObject, SoundScope}
 
 -- ---- the parts of a reply: head, result, and what follows
 module _ (h res tail : List ℕ) (n : ℕ) (lh : length h ≡ 8) (lr : length res ≡ n) where
@@ -83,8 +82,7 @@ module _ {f : List ℕ} {s : Scope Object} {space : List ℕ} (g : Clear f s spa
       let p : Partition Object = s .partition in
       let a = found Object.number (x .cred .object) (p .objects) (there g h) in
       subst (SoundObject (s .quarter) (p .last)) (ap (λ (o : Option Object). Option·getD o noObject) (sym (a .1)))
-      (object-is (s .quarter) (p .last) (a .0) (every-member (soundObject (s .quarter) (p .last)) (p .objects) (a .0)
-      (partition-is (s .quarter) p k .each) (a .2)))
+      (member-sound (partition-is (s .quarter) p k) (a .2))
 
   pub read-room : (M : ℕ) → s .quarter ≡ quarter M → isTransfer (x .req) ≡ true
       → extentStart s (x .cred) + x .req .A + x .req .B ≤ M
@@ -161,7 +159,7 @@ module _
     length-whole : length whole ≡ replyLength (y .req)
     length-whole = reply-length (u .keys) y res length-res
 
-    -- what stands in the space is the reply
+    -- the space begins with the reply
     taken : take (gate d m c .length) (gate d m c .space) ≡ whole
     unfolding granted splice refresh
     taken =

@@ -1,4 +1,4 @@
--- A granted read shows the ledger's bytes.
+-- A granted read shows the ledger's bytes (`read-shown`), and the length of a reply (`answer-length`).
 use mathlib.Core.Path.{_∙_, _≡_, ap, refl, subst, sym}
 use mathlib.Core.Bool.{Bool, cond, false, true}
 use mathlib.Core.Option.{Option, Option·getD, Option·map}
@@ -36,12 +36,12 @@ use Rattle.rules.specs.Operations.{
   sealed,
 }
 use Rattle.rules.specs.Scope.{Scope, driveScope}
-use Rattle.rules.proofs.Bare.{sees, the-held, the-object}
+use Rattle.rules.proofs.Bare.{sees, the-ledger-object, the-object}
 use Rattle.rules.proofs.Clear.{Asks, asks-for, in-object, in-seven, read-moves, there}
-use Rattle.rules.proofs.Holds.{Good, held-sound, partition-in-four, quarter-in}
-use Rattle.rules.proofs.Step.{answer-granted, clear-of, fresh, fresh-inv, Inv, row-zero, rowOf, sees-is}
+use Rattle.rules.proofs.Holds.{Consistent, inside}
+use Rattle.rules.proofs.Step.{answer-granted, clear-of, fresh, fresh-inv, Invariant, row-zero, rowOf, sees-is}
 
--- the result stands in the reply after its eight-byte head
+-- the result comes in the reply after the eight-byte head
 in-reply : (x : Fields) (r after space : List ℕ) → part (splice space 0 (headed (x .req) r ++ after)) 8 (length r) ≡ r
 unfolding part splice headed head bigEndian
 in-reply x r after space = ap (take (length r)) (append-assoc r after _) ∙ take-at r _ (length r) refl
@@ -50,7 +50,7 @@ in-reply x r after space = ap (take (length r)) (append-assoc r after _) ∙ tak
 abbrev pub piece : Scope Object → Fields → List ℕ → ℕ → ℕ → List ℕ
 piece s x m a b = part m (extentStart s (x .cred) + a) b
 
-read-bytes : (M : ℕ) (m : List ℕ) (l : Ledger) → Good M m l → (es : List Entry) (x : Fields) (a b : ℕ)
+read-bytes : (M : ℕ) (m : List ℕ) (l : Ledger) → Consistent M m l → (es : List Entry) (x : Fields) (a b : ℕ)
     → missing (namedObject (sees M l es (x .cred)) (x .cred)) ≡ false
     → a + b ≤ objectOf (sees M l es (x .cred)) (x .cred) .size
     → (piece (sees M l es (x .cred)) x m a b ≡ part (bytesOf l x) a b)
@@ -59,7 +59,7 @@ unfolding extentStart bytesOf objectOf namedObject
 read-bytes M m l g es x a b e fit = (
   ap (λ (o : Object). part m (p * quarter M + o .start + a) b) object
       ∙ sym (part-part m (p * quarter M + h .object .start) (h .object .size) a b fit′ room)
-      ∙ ap (λ (l : List ℕ). part l a b) (g .bytes p h (the-held here n e .2) ∙ sym held),
+      ∙ ap (λ (l : List ℕ). part l a b) (g .bytes p h (the-ledger-object here n e .2) ∙ sym held),
   length-part m (extentStart (sees M l es (x .cred)) (x .cred) + a) b
       (omega (arith, room, fit′, ap Object.start object)),
 )
@@ -74,7 +74,7 @@ read-bytes M m l g es x a b e fit = (
     here = partitionAt l p
 
     h : LedgerObject
-    h = the-held here n e .0
+    h = the-ledger-object here n e .0
 
     object : objectOf (sees M l es (x .cred)) (x .cred) ≡ h .object
     object = the-object here n e
@@ -83,33 +83,28 @@ read-bytes M m l g es x a b e fit = (
     fit′ = omega (arith, fit, ap Object.size object)
 
     room : p * quarter M + h .object .start + h .object .size ≤ length m
-    room = omega (
-      arith,
-      quarter-in M p (partition-in-four M m l g p h (the-held here n e .2)),
-      held-sound M m l g p h (the-held here n e .2) .inside,
-      g .size,
-    )
+    room = inside g p h (the-ledger-object here n e .2)
 
     held : Option·getD (Option·map LedgerObject.bytes (find numberOf n (here .objects))) [] ≡ h .bytes
-    held = ap (λ (o : Option LedgerObject). Option·getD (Option·map LedgerObject.bytes o) []) (the-held here n e .1)
+    held = ap (λ (o : Option LedgerObject). Option·getD (Option·map LedgerObject.bytes o) []) (the-ledger-object here n e .1)
 
-module _ (M : ℕ) (s : State) (l : Ledger) (c : Call) (v : Inv M s l) (r : answer s c .row ≡ 0) where
+module _ {M : ℕ} {s : State} {l : Ledger} (v : Invariant M s l) (c : Call) (r : answer s c .row ≡ 0) where
   abbrev x : Fields
   x = fields (c .frame)
 
-  abbrev sight : Scope Object
-  sight = driveScope (fresh s c) (x .cred)
+  abbrev scope : Scope Object
+  scope = driveScope (fresh s c) (x .cred)
 
-  both-known : (a b : ℕ) → callOperation c ≡ Read a b
-      → (piece sight x (s .medium) a b ≡ part (bytesOf l x) a b) × (length (piece sight x (s .medium) a b) ≡ b)
+  read-piece : (a b : ℕ) → callOperation c ≡ Read a b
+      → (piece scope x (s .medium) a b ≡ part (bytesOf l x) a b) × (length (piece scope x (s .medium) a b) ≡ b)
   unfolding clocked bytesOf
-  both-known a b o =
-      let k = clear-of M s l c v (row-zero M s l c v r) in
+  read-piece a b o =
+      let k = clear-of v c (row-zero v c r) in
       let n = asks-for (x .req) (Read a b) o in
-      let e = sees-is M s l c v in
+      let e = sees-is v c in
       subst (λ (t : Scope Object). (piece t x (s .medium) a b ≡ part (bytesOf l x) a b)
       × (length (piece t x (s .medium) a b) ≡ b)) (sym e)
-      (read-bytes M (s .medium) (clocked (c .clock) l) (fresh-inv M s l c v .good) (sight .memory) x a b
+      (read-bytes M (s .medium) (clocked (c .clock) l) (fresh-inv v c .consistent) (scope .memory) x a b
       (subst (λ (t : Scope Object). missing (namedObject t (x .cred)) ≡ false) e (there k (read-moves k o)))
       (subst (λ (t : Scope Object). a + b ≤ objectOf t (x .cred) .size) e
       (omega (arith, n .1, n .2, in-object k (read-moves k o)))))
@@ -117,13 +112,13 @@ module _ (M : ℕ) (s : State) (l : Ledger) (c : Call) (v : Inv M s l) (r : answ
   pub read-shown : (a b : ℕ) → callOperation c ≡ Read a b → part (answer s c .space) 8 b ≡ part (bytesOf l x) a b
   unfolding granted reply perform
   read-shown a b o =
-      let res : List ℕ = piece sight x (s .medium) a b in
-      ap (λ (l : List ℕ). part l 8 b) (ap (λ a. a .space) (answer-granted M s l c v (row-zero M s l c v r)))
-      ∙ ap (λ (k : Operation). part (splice (c .space) 0 (reply (sight .keys) x (perform k sight x (s .medium) .result)))
+      let res : List ℕ = piece scope x (s .medium) a b in
+      ap (λ (l : List ℕ). part l 8 b) (ap (λ a. a .space) (answer-granted v c (row-zero v c r)))
+      ∙ ap (λ (k : Operation). part (splice (c .space) 0 (reply (scope .keys) x (perform k scope x (s .medium) .result)))
       8 b) o
-      ∙ subst (λ (n : ℕ). part (splice (c .space) 0 (headed (x .req) res ++ sealed (sight .keys) x res)) 8 n ≡ res)
-      (both-known a b o .1) (in-reply x res (sealed (sight .keys) x res) (c .space))
-      ∙ both-known a b o .0
+      ∙ subst (λ (n : ℕ). part (splice (c .space) 0 (headed (x .req) res ++ sealed (scope .keys) x res)) 8 n ≡ res)
+      (read-piece a b o .1) (in-reply x res (sealed (scope .keys) x res) (c .space))
+      ∙ read-piece a b o .0
 
 -- ---- the length that a grant returns is the reply's
 length-sealed : (k : Keys) (x : Fields) (r : List ℕ) → length (sealed k x r) ≡ cond (x .req .level is 2) 32 0
@@ -159,16 +154,16 @@ unfolding reply headed head replyLength bigEndian
 reply-length k x r e =
     omega (arith, length-append (headed (x .req) r) (sealed k x r), length-sealed k x r, e)
 
-pub answer-length : (M : ℕ) (s : State) (l : Ledger) (c : Call) → Inv M s l → answer s c .row ≡ 0
+pub answer-length : {M : ℕ} {s : State} {l : Ledger} → Invariant M s l → (c : Call) → answer s c .row ≡ 0
     → answer s c .length ≡ length (reply (fresh s c .tables .keys) (fields (c .frame))
     (perform (callOperation c) (driveScope (fresh s c) (fields (c .frame) .cred)) (fields (c .frame)) (s .medium) .result))
 unfolding granted
-answer-length M s l c v r =
-    ap (λ a. a .length) (answer-granted M s l c v e)
+answer-length {M} {s} {l} v c r =
+    ap (λ a. a .length) (answer-granted v c e)
     ∙ sym (reply-length (fresh s c .tables .keys) (fields (c .frame)) _
     (result-length (driveScope (fresh s c) (fields (c .frame) .cred)) (fields (c .frame)) (s .medium)
-    (in-seven (clear-of M s l c v e) .0) (in-seven (clear-of M s l c v e) .1)
-    (λ a b o. both-known M s l c v r a b o .1)))
+    (in-seven (clear-of v c e) .0) (in-seven (clear-of v c e) .1)
+    (λ a b o. read-piece v c r a b o .1)))
   where
     e : rowOf s c ≡ 0
-    e = row-zero M s l c v r
+    e = row-zero v c r

@@ -1,17 +1,21 @@
 -- A grant leaves sound partitions sound.
-use mathlib.Core.Path.{_≡_, refl}
-use mathlib.Core.Bool.{Bool, cond, false, true}
-use mathlib.Core.List.{[], _∷_, List, map}
+use mathlib.Core.Path.{_≡_, ap, refl, subst}
+use mathlib.Core.Logic.{_⊎_, inl, inr}
+use mathlib.Core.Bool.{_||_, Bool, cond, false, true}
+use mathlib.Core.List.{[], _∷_, List, List·Memᴰ, List·Memᴰ·not-nil, map}
 use Prim.Native.Nat.{_+_, _<_, _≤_, ℕ}
+use native.Mathlib.Decide.{decLt}
 use native.Mathlib.Omega.{arith}
-use lib.ListN.{length, length-append, length-map}
-use borrow.Author.Tests.{le-leb, leb-true}
+use lib.Dec.{leb}
+use lib.ListN.{length, length-append, length-map, List·getD-eq-default}
+use borrow.Author.Tests.{eqb-false, le-leb, leb-true, not-true}
 use Rattle.lemmas.specs.ListLaws.{
   every-and,
   every-append,
   every-imp,
   every-keep,
   every-map,
+  every-member,
   every-nth,
   every-one,
   every-update,
@@ -19,9 +23,10 @@ use Rattle.lemmas.specs.ListLaws.{
   pairs-append-one,
   pairs-keep,
   pairs-map,
+  pairs-members,
 }
 use Rattle.lemmas.specs.Lists.{change, every, pairs}
-use Rattle.lemmas.specs.Tests.{_is_, _isnt_, and-l, and-r, both}
+use Rattle.lemmas.specs.Tests.{_is_, _isnt_, and-l, and-r, both, or-cases}
 use Rattle.rules.specs.declared.Object.{Object}
 use Rattle.rules.specs.Drive.{
   apart,
@@ -71,6 +76,50 @@ partition-is q p h = record {
   each = search (and-l, and-r);
   pair = search (and-l, and-r);
 }
+
+-- its objects, one by one and two by two
+pub member-sound : {q : ℕ} {p : Partition Object} {a : Object} → SoundPartition q p → List·Memᴰ a (p .objects)
+    → SoundObject q (p .last) a
+member-sound {q} {p} {a} s k =
+    object-is q (p .last) a (every-member (soundObject q (p .last)) (p .objects) a (s .each) k)
+
+abbrev pub Disjoint : Object → Object → Type 0
+Disjoint a b = (a .start + a .size ≤ b .start) ⊎ (b .start + b .size ≤ a .start)
+
+apart-disjoint : (a b : Object) → apart a b ≡ true → Disjoint a b
+apart-disjoint a b e = go (or-cases (leb (a .start + a .size) (b .start)) (leb (b .start + b .size) (a .start))
+    (and-r (a .number isnt b .number) (leb (a .start + a .size) (b .start) || leb (b .start + b .size) (a .start)) e))
+  where
+    go : (leb (a .start + a .size) (b .start) ≡ true) ⊎ (leb (b .start + b .size) (a .start) ≡ true) → Disjoint a b
+    go (inl k) = inl (leb-true (a .start + a .size) (b .start) k)
+    go (inr k) = inr (leb-true (b .start + b .size) (a .start) k)
+
+pub apart-differ : (a b : Object) → apart a b ≡ true → a .number ≡ b .number → ⊥
+apart-differ a b e = eqb-false (a .number) (b .number) (not-true (a .number is b .number)
+    (and-l (a .number isnt b .number) (leb (a .start + a .size) (b .start) || leb (b .start + b .size) (a .start)) e))
+
+pub members-disjoint : {q : ℕ} {p : Partition Object} {a b : Object} → SoundPartition q p → List·Memᴰ a (p .objects)
+    → List·Memᴰ b (p .objects) → (a .number ≡ b .number → ⊥) → Disjoint a b
+members-disjoint {q} {p} {a} {b} s i j ne = go (pairs-members apart (p .objects) a b (s .pair) i j)
+  where
+    swap : Disjoint b a → Disjoint a b
+    swap (inl k) = inr k
+    swap (inr k) = inl k
+
+    go : (a ≡ b) ⊎ ((apart a b ≡ true) ⊎ (apart b a ≡ true)) → Disjoint a b
+    go (inl e) = absurd (ne (ap Object.number e))
+    go (inr (inl e)) = apart-disjoint a b e
+    go (inr (inr e)) = swap (apart-disjoint b a e)
+
+-- only four partitions have objects
+pub below-four : {A : Type 0} (t : Tables A) (p : ℕ) (a : A) → length (t .partitions) ≡ 4
+    → List·Memᴰ a (partitionAt t p .objects) → p < 4
+below-four {A} t p a e k = go (decLt p 4)
+  where
+    go : Dec (p < 4) → p < 4
+    go (yes h) = h
+    go (no h) = absurd (List·Memᴰ·not-nil (subst (λ (r : Partition A). List·Memᴰ a (r .objects))
+        (List·getD-eq-default (t .partitions) (emptyPartition 0) {n = p} (omega (arith, e))) k))
 
 partition-sound : (q : ℕ) (p : Partition Object) → SoundPartition q p → soundPartition q p ≡ true
 unfolding soundPartition

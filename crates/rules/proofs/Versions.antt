@@ -1,5 +1,5 @@
--- Calls that a ledger is fed by the gate: versions that are there were given, and what one call does to an object's
--- version and bytes.
+-- Calls that the gate feeds a ledger: every version that an object has was given before, and what one call does to an
+-- object's version and bytes.
 use mathlib.Core.Path.{_∙_, _≡_, ap, refl, subst, subst₂, sym}
 use mathlib.Core.Logic.{_⊎_, inl, inr}
 use mathlib.Core.Bool.{Bool, cond, false, true, true≢false}
@@ -11,8 +11,8 @@ use lib.ListN.{length}
 use borrow.Author.Tests.{eq-eqb, eqb-true}
 use Rattle.lemmas.specs.Lists.{find, splice}
 use Rattle.lemmas.specs.Tests.{_is_, and-l, and-r, bool-cases, both}
-use Rattle.rules.specs.Demands.{answer, fed, State, step}
-use Rattle.rules.specs.Drive.{format, Partition, partitionAt, emptyPartition}
+use Rattle.rules.specs.Demands.{fed, State}
+use Rattle.rules.specs.Drive.{Partition, partitionAt, emptyPartition}
 use Rattle.rules.specs.declared.Operation.{Operation}
 use Rattle.rules.specs.declared.Operation.the-variants.{Write}
 use Rattle.rules.specs.Frame.{Fields, operation, operationOf}
@@ -21,20 +21,20 @@ use Rattle.rules.specs.Ledger.{clocked, Fed, feed, LedgerObject, Ledger,
 use Rattle.rules.specs.Story.{fedFields, Gives, lastOf, OfEveryList, Renewing, Renews, versionIn, versionOf, writes}
 use Rattle.rules.proofs.Clear.{asks-for}
 use Rattle.rules.proofs.Demand.{format-inv}
-use Rattle.rules.proofs.Passed.{Here, here-or-still, Passed, passed, Still}
+use Rattle.rules.proofs.Passed.{Affected, affected-or-not, Passed, passed, Unaffected}
 use Rattle.rules.proofs.Renewal.{
   bytes-same,
   bytes-written,
   bytesIn,
   CanRenew,
-  effect,
+  partitionAfter,
   given-next,
   last-next,
   last-rises,
   renewed,
   renewed-or-same,
 }
-use Rattle.rules.proofs.Step.{fedOf, Inv, row-zero, step-inv}
+use Rattle.rules.proofs.Step.{fedOf, Invariant, row-zero, step-inv}
 
 -- every version that is there was given
 abbrev pub Given : Ledger → Type 0
@@ -44,17 +44,22 @@ pub record Sane (l : Ledger) : Type 0 where
   pub four : length (l .partitions) ≡ 4
   pub given : Given l
 
-unfoldable pub Kept : ℕ → Ledger → List Fed → Type 0
-Kept M l [] = Sane l
-Kept M l (c ∷ cs) = Sane l × (c .row ≡ 0 → Passed l (fedFields c)) × Kept M (feed M l c) cs
+-- one call that the gate feeds it, and a list of them
+pub record FedCall (l : Ledger) (c : Fed) : Type 0 where
+  pub sane : Sane l
+  pub passes : c .row ≡ 0 → Passed l (fedFields c)
+
+unfoldable pub FedByGate : ℕ → Ledger → List Fed → Type 0
+FedByGate M l [] = Sane l
+FedByGate M l (c ∷ cs) = FedCall l c × FedByGate M (feed M l c) cs
 
 -- versions of object n in partition p are from w on, now and later
-pub record Beyond (w p n : ℕ) (l : Ledger) : Type 0 where
+pub record VersionsFrom (w p n : ℕ) (l : Ledger) : Type 0 where
   pub last : w ≤ lastOf l p + 1
   pub version : (u : ℕ) → versionOf l p n ≡ some u → w ≤ u
 
 -- ---- one call
-module _ (M : ℕ) (l : Ledger) (c : Fed) (s : Sane l) (ok : c .row ≡ 0 → Passed l (fedFields c)) where
+module _ (M : ℕ) {l : Ledger} {c : Fed} (f : FedCall l c) where
   abbrev x : Fields
   x = fedFields c
 
@@ -64,17 +69,17 @@ module _ (M : ℕ) (l : Ledger) (c : Fed) (s : Sane l) (ok : c .row ≡ 0 → Pa
   abbrev next : Ledger
   next = feed M l c
 
-  at : (p : ℕ) → Here M l c p ⊎ Still M l c p
-  at p = here-or-still M l c p (s .four) ok
+  at : (p : ℕ) → Affected M l c p ⊎ Unaffected M l c p
+  at p = affected-or-not M l c p (f .sane .four) (f .passes)
 
-  can : (p : ℕ) → Here M l c p → CanRenew (operationOf x) x (partitionAt l p)
-  can p h = subst (λ (r : ℕ). CanRenew (operationOf x) x (partitionAt l r)) (h .partition) (ok (h .granted) .renews)
+  can : (p : ℕ) → Affected M l c p → CanRenew (operationOf x) x (partitionAt l p)
+  can p h = subst (λ (r : ℕ). CanRenew (operationOf x) x (partitionAt l r)) (h .partition) (f .passes (h .granted) .renews)
 
   -- the last version given
   pub last-step : (p : ℕ) → lastOf l p ≤ lastOf next p
   last-step p = go (at p)
     where
-      go : Here M l c p ⊎ Still M l c p → lastOf l p ≤ lastOf next p
+      go : Affected M l c p ⊎ Unaffected M l c p → lastOf l p ≤ lastOf next p
       go (inl h) = subst (λ (r : Partition LedgerObject). lastOf l p ≤ r .last) (sym (h .effect))
           (last-rises M x now (partitionAt l p) (operationOf x))
       go (inr h) = subst (λ (r : Partition LedgerObject). lastOf l p ≤ r .last) (sym (h .same)) (omega arith)
@@ -84,7 +89,7 @@ module _ (M : ℕ) (l : Ledger) (c : Fed) (s : Sane l) (ok : c .row ≡ 0 → Pa
       → (lastOf next p ≡ lastOf l p + 1) × (versionOf next p n ≡ some (lastOf l p + 1))
   next-step p n g = go (at p)
     where
-      go : Here M l c p ⊎ Still M l c p
+      go : Affected M l c p ⊎ Unaffected M l c p
           → (lastOf next p ≡ lastOf l p + 1) × (versionOf next p n ≡ some (lastOf l p + 1))
       go (inl h) = (
         ap (λ (r : Partition LedgerObject). r .last) (h .effect)
@@ -98,7 +103,7 @@ module _ (M : ℕ) (l : Ledger) (c : Fed) (s : Sane l) (ok : c .row ≡ 0 → Pa
   abbrev New : ℕ → ℕ → Type 0
   New p u = (u ≡ lastOf l p + 1) × (lastOf next p ≡ lastOf l p + 1)
 
-  new-here : (p n u : ℕ) → Here M l c p → Renewing (operationOf x) x n → versionOf next p n ≡ some u → New p u
+  new-here : (p n u : ℕ) → Affected M l c p → Renewing (operationOf x) x n → versionOf next p n ≡ some u → New p u
   new-here p n u h r e =
       let k = renewed M x now (partitionAt l p) (operationOf x) n u (can p h) r
       (ap (λ (q : Partition LedgerObject). versionIn q n) (sym (h .effect)) ∙ e) in
@@ -107,13 +112,13 @@ module _ (M : ℕ) (l : Ledger) (c : Fed) (s : Sane l) (ok : c .row ≡ 0 → Pa
   from-step : (p n u : ℕ) → versionOf next p n ≡ some u → (versionOf l p n ≡ some u) ⊎ New p u
   from-step p n u e = go (at p)
     where
-      here : Here M l c p → Renewing (operationOf x) x n
-          ⊎ (versionIn (effect (operationOf x) M x now (partitionAt l p)) n ≡ versionOf l p n)
+      here : Affected M l c p → Renewing (operationOf x) x n
+          ⊎ (versionIn (partitionAfter (operationOf x) M x now (partitionAt l p)) n ≡ versionOf l p n)
           → (versionOf l p n ≡ some u) ⊎ New p u
       here h (inl r) = inr (new-here p n u h r e)
       here h (inr k) = inl (sym k ∙ ap (λ (q : Partition LedgerObject). versionIn q n) (sym (h .effect)) ∙ e)
 
-      go : Here M l c p ⊎ Still M l c p → (versionOf l p n ≡ some u) ⊎ New p u
+      go : Affected M l c p ⊎ Unaffected M l c p → (versionOf l p n ≡ some u) ⊎ New p u
       go (inl h) = here h (renewed-or-same M x now (partitionAt l p) (operationOf x) n)
       go (inr h) = inl (ap (λ (q : Partition LedgerObject). versionIn q n) (sym (h .same)) ∙ e)
 
@@ -121,11 +126,11 @@ module _ (M : ℕ) (l : Ledger) (c : Fed) (s : Sane l) (ok : c .row ≡ 0 → Pa
   given-step p n v e = go (from-step p n v e)
     where
       go : (versionOf l p n ≡ some v) ⊎ New p v → v ≤ lastOf next p
-      go (inl k) = omega (arith, s .given p n v k, last-step p)
+      go (inl k) = omega (arith, f .sane .given p n v k, last-step p)
       go (inr k) = omega (arith, k .0, k .1)
 
-  pub beyond-step : (w p n : ℕ) → Beyond w p n l → Beyond w p n next
-  beyond-step w p n b = record {
+  pub versions-from-step : (w p n : ℕ) → VersionsFrom w p n l → VersionsFrom w p n next
+  versions-from-step w p n b = record {
     last = omega (arith, b .last, last-step p);
     version = λ u e. go u (from-step p n u e);
   }
@@ -135,10 +140,10 @@ module _ (M : ℕ) (l : Ledger) (c : Fed) (s : Sane l) (ok : c .row ≡ 0 → Pa
       go u (inr k) = omega (arith, b .last, k .0)
 
   -- a renewal leaves every version given before it behind
-  pub renew-step : (v p n : ℕ) → Renews p n c → v ≤ lastOf l p → Beyond (v + 1) p n next
+  pub renew-step : (v p n : ℕ) → Renews p n c → v ≤ lastOf l p → VersionsFrom (v + 1) p n next
   renew-step v p n r h = go (at p)
     where
-      go : Here M l c p ⊎ Still M l c p → Beyond (v + 1) p n next
+      go : Affected M l c p ⊎ Unaffected M l c p → VersionsFrom (v + 1) p n next
       go (inl k) = record {
         last = omega (arith, h, last-step p);
         version = λ u e. omega (arith, h, new-here p n u k (r .object) e .0);
@@ -175,16 +180,16 @@ module _ (M : ℕ) (l : Ledger) (c : Fed) (s : Sane l) (ok : c .row ≡ 0 → Pa
   unfolding ledgerPerform
   bytes-step p n r = go (at p) (bool-cases (writes p n c))
     where
-      wrote : Here M l c p → Writes p n → bytesAt next p n ≡ splice (bytesAt l p n) (x .req .A) (x .payload)
+      wrote : Affected M l c p → Writes p n → bytesAt next p n ≡ splice (bytesAt l p n) (x .req .A) (x .payload)
       wrote h w =
           ap (λ (q : Partition LedgerObject). bytesIn q n) (h .effect)
-          ∙ ap (λ (o : Operation). bytesIn (effect o M x now (partitionAt l p)) n) (w .1)
+          ∙ ap (λ (o : Operation). bytesIn (partitionAfter o M x now (partitionAt l p)) n) (w .1)
           ∙ subst₂ (λ (q k : ℕ). bytesIn (ledgerWritten (x .cred .object) (x .req .A) (x .payload) (partitionAt l q)) k
           ≡ splice (bytesAt l q k) (x .req .A) (x .payload)) (w .2) (w .3)
           (bytes-written (x .cred .object) (x .req .A) (x .payload) (partitionAt l (x .cred .partition))
-          (ok (w .0) .writes (x .req .A) (x .req .B) (w .1)))
+          (f .passes (w .0) .writes (x .req .A) (x .req .B) (w .1)))
 
-      go : Here M l c p ⊎ Still M l c p → (writes p n c ≡ true) ⊎ (writes p n c ≡ false)
+      go : Affected M l c p ⊎ Unaffected M l c p → (writes p n c ≡ true) ⊎ (writes p n c ≡ false)
           → bytesAt next p n ≡ cond (writes p n c) (splice (bytesAt l p n) (x .req .A) (x .payload)) (bytesAt l p n)
       go (inl h) (inl e) = rw e (wrote h (writes-is p n e))
       go (inl h) (inr e) =
@@ -196,29 +201,28 @@ module _ (M : ℕ) (l : Ledger) (c : Fed) (s : Sane l) (ok : c .row ≡ 0 → Pa
       go (inr h) (inr e) = rw e (ap (λ (q : Partition LedgerObject). bytesIn q n) (h .same))
 
 -- ---- lists
-pub kept-sane : (M : ℕ) (l : Ledger) (cs : List Fed) → Kept M l cs → Sane l
-unfolding Kept
-kept-sane M l [] k = k
-kept-sane M l (c ∷ cs) k = k .0
+pub fed-sane : (M : ℕ) (l : Ledger) (cs : List Fed) → FedByGate M l cs → Sane l
+unfolding FedByGate
+fed-sane M l [] k = k
+fed-sane M l (c ∷ cs) k = k .0 .sane
 
-pub kept-rest : (M : ℕ) (l : Ledger) (before later : List Fed) → Kept M l (before ++ later)
-    → Kept M (ledger M l before) later
-unfolding Kept ledger
-kept-rest M l [] later k = k
-kept-rest M l (c ∷ cs) later k = kept-rest M (feed M l c) cs later (k .2)
+pub fed-rest : (M : ℕ) (l : Ledger) (before later : List Fed) → FedByGate M l (before ++ later)
+    → FedByGate M (ledger M l before) later
+unfolding FedByGate ledger
+fed-rest M l [] later k = k
+fed-rest M l (c ∷ cs) later k = fed-rest M (feed M l c) cs later (k .1)
 
 -- what the gate feeds the ledger
-run-kept : (M : ℕ) (s : State) (l : Ledger) (calls : List Call) → Inv M s l → Given l → Kept M l (fed s calls)
-unfolding Kept fed
-run-kept M s l [] v g = record { four = v .good .four; given = g }
-run-kept M s l (c ∷ cs) v g =
-    let sane : Sane l = record { four = v .good .four; given = g } in
-    let ok : answer s c .row ≡ 0 → Passed l (fedFields (fedOf s c)) = λ r. passed M s l c v (row-zero M s l c v r) in (
-      sane,
-      ok,
-      run-kept M (step s c) (feed M l (fedOf s c)) cs (step-inv M s l c v)
-          (given-step M l (fedOf s c) sane ok),
-    )
+run-fed : {M : ℕ} {s : State} {l : Ledger} → Invariant M s l → Given l → (calls : List Call)
+    → FedByGate M l (fed s calls)
+unfolding FedByGate fed
+run-fed v g [] = record { four = v .consistent .four; given = g }
+run-fed {M} {s} {l} v g (c ∷ cs) =
+    let f : FedCall l (fedOf s c) = record {
+      sane = record { four = v .consistent .four; given = g };
+      passes = λ r. passed v c (row-zero v c r);
+    } in
+    (f, run-fed (step-inv v c) (given-step M f) cs)
 
 -- from a format on
 unused-given : (F n v : ℕ) → versionIn (emptyPartition F) n ≡ some v → v ≤ F
@@ -237,9 +241,5 @@ start-given F master drive (suc (suc zero)) n v e = unused-given F n v e
 start-given F master drive (suc (suc (suc zero))) n v e = unused-given F n v e
 start-given F master drive (suc (suc (suc (suc p)))) n v e = unused-given 0 n v e
 
-pub all-kept : OfEveryList Kept
-all-kept medium F master drive calls e =
-    run-kept (length medium) (record {
-      drive = format medium F master drive .drive;
-      medium = format medium F master drive .medium;
-    }) (ledgerStart F master drive) calls (format-inv medium F master drive e) (start-given F master drive)
+pub all-fed : OfEveryList FedByGate
+all-fed medium F master drive calls e = run-fed (format-inv medium F master drive e) (start-given F master drive) calls

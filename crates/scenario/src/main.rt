@@ -23,18 +23,22 @@ const TABLES: usize = 268;
 
 const KEY_SIZE: usize = 32;
 
-// What it holds before the first format.
-fn medium_buffer() -> [u8; 400]
-    ensures { λ r. ⌜ 400 ≡ length r ⌝ }
-{
-    [0xaa; 400]
-}
+const MEDIUM_SIZE: usize = 400;
 
 // The scenarios have no longer frame, and no longer reply.
-fn frame_buffer() -> [u8; 160]
+const FRAME_SIZE: usize = 160;
+
+// What the medium has before the first format.
+fn medium_buffer() -> [u8; MEDIUM_SIZE]
+    ensures { λ r. ⌜ 400 ≡ length r ⌝ }
+{
+    [0xaa; MEDIUM_SIZE]
+}
+
+fn frame_buffer() -> [u8; FRAME_SIZE]
     ensures { λ r. ⌜ 160 ≡ length r ⌝ }
 {
-    [0; 160]
+    [0; FRAME_SIZE]
 }
 
 // The player with what a line can see of the drive.
@@ -49,11 +53,11 @@ fn observing(a: Answer, numbers: [u64; NUMBERS], kept: [u8; KEY_SIZE]) -> Player
 // The tables with as many objects in partition 0, and the second one of them, as `damage` says.
 fn damaged_tables(old: [u32; TABLES], n: [u64; NUMBERS]) -> [u32; TABLES] {
     let mut t = old;
-    t[2] = four(n[words::B]);
-    t[4] = four(n[words::A + 2]);
-    t[20] = four(n[words::A + 3]);
-    t[36] = four(n[words::A + 4]);
-    t[52] = four(n[words::A + 5]);
+    t[player::OBJECTS] = four(n[words::B]);
+    t[player::NUMBERS_FROM + 1] = four(n[words::A + 2]);
+    t[player::VERSIONS_FROM + 1] = four(n[words::A + 3]);
+    t[player::SIZES_FROM + 1] = four(n[words::A + 4]);
+    t[player::STARTS_FROM + 1] = four(n[words::A + 5]);
     t
 }
 

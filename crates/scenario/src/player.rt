@@ -19,6 +19,20 @@ const KEY_COUNT: usize = 14;
 
 const KEY_SIZE: usize = 32;
 
+// Where a partition's table has its last version and its count of objects; where the numbers, versions, sizes and starts
+// of its objects begin.
+const LAST_VERSION: usize = 1;
+
+pub const OBJECTS: usize = 2;
+
+pub const NUMBERS_FROM: usize = 3;
+
+pub const VERSIONS_FROM: usize = 19;
+
+pub const SIZES_FROM: usize = 35;
+
+pub const STARTS_FROM: usize = 51;
+
 // How many numbers a line has at most.
 const LINE_NUMBERS: usize = 7;
 
@@ -154,13 +168,13 @@ fn start_of(tables: [u32; TABLES], number: u32) -> u64 {
 // With the numbers of partition 0 and of its second object.
 fn with_objects(old: [u64; NUMBERS], tables: [u32; TABLES]) -> [u64; NUMBERS] {
     let mut n = old;
-    n[words::DRIVE + 2] = tables[2] as u64;
-    n[words::LAST] = tables[1] as u64;
+    n[words::DRIVE + 2] = tables[OBJECTS] as u64;
+    n[words::LAST] = tables[LAST_VERSION] as u64;
     n[words::PLACE] = start_of(tables, four(n[words::A]));
-    n[words::DRIVE + 3] = tables[4] as u64;
-    n[words::DRIVE + 4] = tables[20] as u64;
-    n[words::DRIVE + 5] = tables[36] as u64;
-    n[words::DRIVE + 6] = tables[52] as u64;
+    n[words::DRIVE + 3] = tables[NUMBERS_FROM + 1] as u64;
+    n[words::DRIVE + 4] = tables[VERSIONS_FROM + 1] as u64;
+    n[words::DRIVE + 5] = tables[SIZES_FROM + 1] as u64;
+    n[words::DRIVE + 6] = tables[STARTS_FROM + 1] as u64;
     n
 }
 

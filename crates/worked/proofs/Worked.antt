@@ -6,7 +6,6 @@ use mathlib.Core.Bool.{false, not}
 use mathlib.Core.Option.{Option·getD, some}
 use mathlib.Core.List.{[], _++_, _∷_, List, map}
 use Prim.Native.Nat.{_+_, ℕ}
-use native.Mathlib.Omega.{arith}
 use lib.Dec.{T}
 use lib.ListN.{drop, getD, replicate, set}
 use Rattle.lemmas.specs.Lists.{same}

@@ -1,6 +1,5 @@
 -- What is lent fits the buffers.
 use mathlib.Core.Path.{sym}
-use native.Mathlib.Omega.{arith}
 use lib.Seq.{length-take-le}
 use borrow.Author.Needs.{needs}
 use Rattle.drive_replay.proofs.answer.Statement.{statement}

@@ -3,7 +3,7 @@ use mathlib.Core.Path.{_≡_, refl, sym, ap, subst, _∙_}
 use mathlib.Core.Bool.{true, false}
 use mathlib.Core.Logic.{⊎-elim}
 use mathlib.Core.List.{List, _++_}
-use Prim.Native.Nat.{ℕ, _+_, _-_, _≤_, _<_}
+use Prim.Native.Nat.{ℕ, _+_, _-_, _≤_}
 use native.Mathlib.Omega.{arith}
 use lib.ListN.{length, take, drop}
 use borrow.Author.Needs.{needs}
@@ -15,9 +15,9 @@ use Rattle.drive.specs.declared.Answer.{Answer}
 use Rattle.drive.specs.declared.Drive.{Drive}
 use Rattle.drive.specs.Met.{GateMet, callOf}
 use Rattle.gate.specs.declared.InputRecord.{InputRecord}
-use Rattle.gate.specs.Answered.{stateOf, answered}
+use Rattle.gate.specs.Answered.{replySize, stateOf, answered}
 use Rattle.gate.specs.Printed.{Printed, printed-none, printed-call, text-put, frame-lent}
-use Rattle.gate.specs.Promises.{replySize, WholeRecordMet, size-zero, size-some, rest, rest-all, length-rest}
+use Rattle.gate.specs.Promises.{WholeRecordMet, size-zero, size-some, rest, rest-all, length-rest}
 use Rattle.gate.proofs.answer_records.Statement.{statement}
 use Rattle.gate.proofs.answer_records.Tie as tie
 
@@ -112,7 +112,7 @@ add-start c = omega (arith, within c, some c .1)
 part-gate-start : tie.Need-part-gate-start Inv-loop μ-loop
 part-gate-start c =
     let e = c .before .before in
-    let g : head e .loop .taken + 14 ≤ head e .loop .taken + e .before .whole-record .result .size =
+    let g : head e .loop .taken + recordHead ≤ head e .loop .taken + e .before .whole-record .result .size =
     omega (arith, some e .1) in
     g
 

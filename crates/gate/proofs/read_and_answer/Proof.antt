@@ -2,14 +2,14 @@
 use mathlib.Core.Path.{_≡_, sym, _∙_}
 use mathlib.Core.Bool.{Bool, true, false, false≢true}
 use mathlib.Core.List.{List}
-use Prim.Native.Nat.{ℕ, _+_, _-_, _≤_, _<_}
+use Prim.Native.Nat.{ℕ, _+_, _-_, _≤_}
 use native.Mathlib.Omega.{arith}
-use lib.ListN.{length, take, drop, length-take, length-drop}
+use lib.ListN.{length, take, drop, length-take}
 use borrow.Author.Needs.{needs}
 use borrow.Author.Tests.{not-false}
 use Rattle.rules.specs.Program.{broken}
 use Rattle.record.specs.Arrival.{malformed}
-use Rattle.gate.specs.Promises.{DrainMet, RefillMet, left-short}
+use Rattle.gate.specs.Promises.{DrainMet, left-short}
 use Rattle.gate.proofs.read_and_answer.Statement.{statement}
 use Rattle.gate.proofs.read_and_answer.Tie as tie
 

@@ -1,13 +1,12 @@
 -- The loop's invariant: the bytes moved are at the front, and none after them has changed.
 use mathlib.Core.Path.{_≡_, refl, sym, ap, ap₂, _∙_}
-use mathlib.Core.List.{List, [], _∷_, _++_}
-use Prim.Native.Nat.{ℕ, suc, _+_, _-_, _≤_, _<_}
+use mathlib.Core.List.{List, [], _++_}
+use Prim.Native.Nat.{ℕ, _+_, _-_, _≤_, _<_}
 use native.Mathlib.Nat.{add-comm}
 use native.Mathlib.Numerals.{add-one}
 use native.Mathlib.Omega.{arith}
 use lib.ListN.{length, getD, set, take, drop, length-set, take-append-drop, length-drop}
 use lib.Seq.{take-suc, take-suc-set, drop-set-lt, drop-drop, getD-drop, length-take-le}
-use borrow.Author.Needs.{needs}
 use Rattle.lemmas.specs.Lists.{part, splice}
 use Rattle.gate.proofs.to_front.Statement.{statement}
 use Rattle.gate.proofs.to_front.Tie as tie

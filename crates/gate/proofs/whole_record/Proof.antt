@@ -1,13 +1,11 @@
 -- A whole record has the values that its answer gives; else both are 0.
-use mathlib.Core.Path.{_≡_, refl, sym, ap, _∙_}
-use mathlib.Core.Bool.{true, false}
+use mathlib.Core.Path.{sym, ap, _∙_}
 use mathlib.Core.List.{List}
-use Prim.Native.Nat.{ℕ, _+_, _≤_, _<_}
+use Prim.Native.Nat.{ℕ, _+_}
 use native.Mathlib.Omega.{arith}
-use lib.ListN.{length}
 use borrow.Author.Needs.{needs}
-use Rattle.record.specs.declared.Arrived.{Arrived}
-use Rattle.record.specs.Arrival.{factsOf, recordFacts}
+use Rattle.rules.specs.Program.{recordHead}
+use Rattle.record.specs.Arrival.{factsOf}
 use Rattle.record.specs.ArrivalLaws.{IsWhole, facts-of-whole, facts-of-malformed, facts-of-short, malformed-broken}
 use Rattle.gate.specs.Promises.{none-whole}
 use Rattle.gate.proofs.whole_record.Statement.{statement}
@@ -29,7 +27,7 @@ returns c =
     let w = whole c in
     record {
       reading = rw (w .whole) (w .reading);
-      counted = rw (w .whole) (ap (λ (k : ℕ). 14 + k) (w .counted));
+      counted = rw (w .whole) (ap (λ (k : ℕ). recordHead + k) (w .counted));
       within = w .fits;
     }
 

@@ -1,9 +1,7 @@
 -- One block fewer is left each time round.
-use mathlib.Core.Path.{_≡_, refl, sym, _∙_}
-use Prim.Native.Nat.{_≤_, _<_}
+use mathlib.Core.Path.{_≡_, refl}
 use native.Mathlib.Omega.{arith}
 use lib.ListN.{length}
-use lib.Seq.{length-take-le}
 use borrow.Author.Needs.{needs}
 use Rattle.gate_bench.proofs.run.Statement.{statement}
 use Rattle.gate_bench.proofs.run.Tie as tie

@@ -1,6 +1,5 @@
 -- The smaller of a number and a length counts bytes that are there.
 use mathlib.Core.Path.{sym}
-use native.Mathlib.Omega.{arith}
 use lib.Seq.{length-take-le}
 use borrow.Author.Needs.{needs}
 use Rattle.drive_replay.proofs.text.flush.Statement.{statement}

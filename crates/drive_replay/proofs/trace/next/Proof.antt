@@ -1,6 +1,5 @@
 -- The head's first part fits its buffer.
 use mathlib.Core.Path.{sym}
-use native.Mathlib.Omega.{arith}
 use lib.Seq.{length-take-le}
 use borrow.Author.Needs.{needs}
 use Rattle.drive_replay.proofs.trace.next.Statement.{statement}

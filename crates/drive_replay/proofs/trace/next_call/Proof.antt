@@ -1,6 +1,5 @@
 -- The frame fits its buffer.
 use mathlib.Core.Path.{sym}
-use native.Mathlib.Omega.{arith}
 use lib.Seq.{length-take-le}
 use borrow.Author.Needs.{needs}
 use Rattle.drive_replay.proofs.trace.next_call.Statement.{statement}

@@ -2,7 +2,6 @@
 use Prim.Native.Nat.{_≤_, _-_}
 use native.Mathlib.Omega.{arith}
 use lib.ListN.{length}
-use borrow.Author.Needs.{needs}
 use Rattle.scenario_script.proofs.script.find.Statement.{statement}
 use Rattle.scenario_script.proofs.script.find.Tie as tie
 
