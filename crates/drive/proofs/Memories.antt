@@ -3,7 +3,7 @@
 use mathlib.Core.Path.{_≡_, refl, sym, ap, _∙_}
 use mathlib.Core.Bool.{true, _&&_}
 use mathlib.Core.List.{List, [], _∷_, _++_, map}
-use Prim.Native.Nat.{ℕ, _+_, _*_, _≤_, _<_, min, max}
+use Prim.Native.Nat.{ℕ, _+_, _*_, _≤_, _<_, max}
 use native.Mathlib.Numerals.{add-one}
 use native.Mathlib.Omega.{arith}
 use lib.Dec.{leb}
@@ -129,12 +129,7 @@ module _ (ns s h t n : List ℕ) (w : MemoriesFit ns s h t n) where
     held-at = memory-at ns all k (omega (arith, w .five)) (short-at ns k (w .entries))
 
     pub held-long : getD ns k 0 ≡ length (getD (memoriesIn ns all) k [])
-    held-long =
-        let a = length-take (getD ns k 0) (drop (mostEntries * k) all) in
-        let b = length-drop (mostEntries * k) all in
-        let c = short-at ns k (w .entries) in
-        let e = places in
-        rw held-at (omega arith)
+    held-long = sym (memory-long ns all k (omega (arith, w .five)) enough)
 
     -- one entry more
     pub joined-at : (x : Entry) → getD ns k 0 < mostEntries
@@ -215,16 +210,8 @@ module _ (ns s h t n : List ℕ) (w : MemoriesFit ns s h t n) where
       r-low : r ≤ size
       r-low =
           let a = length-keep (lives mark) held in
-          let n = p .count in
-          let b : length held ≡ size = ap length (part-is size whole) ∙ length-take size (drop (mostEntries * k) all) ∙ whole-long in
-          omega arith
-        where
-          whole-long : min size (length (drop (mostEntries * k) all)) ≡ size
-          whole-long =
-              let a = length-drop (mostEntries * k) all in
-              let b = places in
-              let c = fits in
-              omega arith
+          let b : length held ≡ size = ap length (part-at size whole) ∙ sym held-long ∙ sym whole in
+          omega (arith, p .count)
 
       pub purged-at : memoriesIn (set ns k r) (entriesIn (putMid (mostEntries * k) size s ss) (putMid (mostEntries * k) size h hs)
           (putMid (mostEntries * k) size t ts) (putMid (mostEntries * k) size n cs))

@@ -16,12 +16,12 @@ use Rattle.state.specs.Padded.{padded}
 use Rattle.state.specs.Table.{countAt, tableSize, partitionView}
 use Rattle.drive.specs.declared.Drive.{Drive}
 
--- n partitions' tables, which stand one after the other
+-- n partitions' tables, one after the other
 abbrev pub tablesIn : ℕ → List ℕ → List (List ℕ)
 tablesIn n l = chunks tableSize n l
 
--- the memories, by their lengths: each has 64 places of its own, one after the other, and its entries stand first in them. A
--- length over 64 is that many entries, so that no such record is sound
+-- the memories, by their lengths: each has 64 places of its own, one after the other, and its entries are at the first of
+-- them. Where a length is over 64 there are that many entries, so that such a record is not sound
 unfoldable pub memoriesIn : List ℕ → List Entry → List (List Entry)
 memoriesIn ns l = zipWith (padded mostEntries noEntry) ns (chunks mostEntries (length ns) l)
 

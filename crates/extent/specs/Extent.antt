@@ -22,7 +22,7 @@ splice-part s a k off b fits within =
     let front : take off (take k t) ≡ take off t = take-take off k t (omega arith) in
     let n : ℕ = off + length b in
     let low : n ≤ length (take k t) = rw (length-take-le k t (omega arith)) within in
-    -- what stands behind b in the part, and behind the part, is what stands behind b in the whole
+    -- the bytes behind b in the part, and those behind the part, are the bytes behind b in the whole
     let behind : drop n (take k t) ++ drop k t ≡ drop n t =
     sym (drop-append-le n (take k t) (drop k t) low) ∙ ap (λ (l : List ℕ). drop n l) (take-append-drop k t) in
     let whole : take (a + off) s ≡ take a s ++ take off t = take-add a off s in

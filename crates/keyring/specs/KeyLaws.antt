@@ -1,4 +1,4 @@
--- What the bytes of the keys tell: the rules' own keys, the one that a slot names, and those after one was set.
+-- Laws of the keys' bytes: a key that is set, the key that a slot names, and the rules' keys after one was set.
 use mathlib.Core.Path.{_≡_, refl, sym, ap, _∙_}
 use mathlib.Core.Logic.{_⊎_, inl, inr}
 use mathlib.Core.Bool.{Bool, true, false, _&&_, cond}

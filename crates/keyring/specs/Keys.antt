@@ -34,7 +34,7 @@ masterKeyAt = driveKeyAt + 1
 abbrev pub keyCount : ℕ
 keyCount = masterKeyAt + 1
 
--- ---- places of bytes: how many a key has, from where on those stand that say which keys are set, how many all are
+-- ---- places of bytes: the bytes of a key, the first of those that say which keys are set, and all bytes
 abbrev pub keySize : ℕ
 keySize = 32
 

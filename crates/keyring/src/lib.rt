@@ -21,7 +21,7 @@ const MASTER_KEY: usize = DRIVE_KEY + 1;
 // How many keys there are; as a place it is no key's.
 const KEY_COUNT: usize = MASTER_KEY + 1;
 
-// How many bytes a key has, from where on those stand that say which keys are set, and how many all are.
+// The bytes of a key, the first of those that say which keys are set, and all bytes.
 pub const KEY: usize = 32;
 
 const FLAGS: usize = KEY * KEY_COUNT;

@@ -77,15 +77,6 @@ module _ {A : Type 0} where
   unfolding every
   every-one t x h = both h refl
 
-  pub every-keep : (t u : A → Bool) (l : List A) → every t l ≡ true → every t (keep u l) ≡ true
-  unfolding every keep
-  every-keep t u [] h = refl
-  every-keep t u (x ∷ xs) h = go (u x) (every-keep t u xs (and-r (t x) (every t xs) h))
-    where
-      go : (b : Bool) → every t (keep u xs) ≡ true → every t (cond b (x ∷ keep u xs) (keep u xs)) ≡ true
-      go true ih = both (and-l (t x) (every t xs) h) ih
-      go false ih = ih
-
   pub every-kept : (t : A → Bool) (l : List A) → every t (keep t l) ≡ true
   unfolding every keep
   every-kept t [] = refl
@@ -153,15 +144,6 @@ module _ {A : Type 0} where
       (pairs-append-one t xs a (and-r (every (t x) xs) (pairs t xs) h)
       (and-r (t x a) (every (λ (b : A). t b a) xs) k))
 
-  pub pairs-keep : (t : A → A → Bool) (u : A → Bool) (l : List A) → pairs t l ≡ true → pairs t (keep u l) ≡ true
-  unfolding pairs keep
-  pairs-keep t u [] h = refl
-  pairs-keep t u (x ∷ xs) h = go (u x) (pairs-keep t u xs (and-r (every (t x) xs) (pairs t xs) h))
-    where
-      go : (b : Bool) → pairs t (keep u xs) ≡ true → pairs t (cond b (x ∷ keep u xs) (keep u xs)) ≡ true
-      go true ih = both (every-keep (t x) u xs (and-l (every (t x) xs) (pairs t xs) h)) ih
-      go false ih = ih
-
   pub pairs-map : (t : A → A → Bool) (f : A → A) → ((a b : A) → t (f a) (f b) ≡ t a b) → (l : List A)
       → pairs t l ≡ true → pairs t (map f l) ≡ true
   unfolding pairs
@@ -217,6 +199,18 @@ module _ {A : Type 0} where
           → List·Memᴰ a (x ∷ xs)
       go true ih k = first ih k
       go false ih k = List·Memᴰ·tail (ih k)
+
+  pub every-keep : (t u : A → Bool) (l : List A) → every t l ≡ true → every t (keep u l) ≡ true
+  every-keep t u l h = every-of t (keep u l) (λ a k. every-member t l a h (member-keep u l a k))
+
+  pub pairs-keep : (t : A → A → Bool) (u : A → Bool) (l : List A) → pairs t l ≡ true → pairs t (keep u l) ≡ true
+  unfolding pairs keep
+  pairs-keep t u [] h = refl
+  pairs-keep t u (x ∷ xs) h = go (u x) (pairs-keep t u xs (and-r (every (t x) xs) (pairs t xs) h))
+    where
+      go : (b : Bool) → pairs t (keep u xs) ≡ true → pairs t (cond b (x ∷ keep u xs) (keep u xs)) ≡ true
+      go true ih = both (every-keep (t x) u xs (and-l (every (t x) xs) (pairs t xs) h)) ih
+      go false ih = ih
 
   pub keep-passes : (t : A → Bool) (l : List A) (a : A) → List·Memᴰ a (keep t l) → t a ≡ true
   keep-passes t l a k = every-member t (keep t l) a (every-kept t l) k
@@ -287,28 +281,22 @@ module _ {A : Type 0} where
       → map f (change (λ (a : A). number (f a)) n g l) ≡ change number n k (map f l)
   unfolding change
   change-map f number n g k e [] = refl
-  change-map {B = B} f number n g k e (x ∷ xs) = ap₂′ (go (number (f x) is n)) (change-map f number n g k e xs)
+  change-map f number n g k e (x ∷ xs) = λ i. go (number (f x) is n) i ∷ change-map f number n g k e xs i
     where
       go : (b : Bool) → f (cond b (g x) x) ≡ cond b (k (f x)) (f x)
       go true = e x
       go false = refl
-
-      ap₂′ : {y z : B} {ys zs : List B} → y ≡ z → ys ≡ zs → _≡_ {A = List B} (y ∷ ys) (z ∷ zs)
-      ap₂′ p q = λ i. p i ∷ q i
 
   pub change-map-same : {B : Type 0} (f : A → B) (number : A → ℕ) (n : ℕ) (g : A → A) → ((a : A) → f (g a) ≡ f a)
       → (l : List A)
       → map f (change number n g l) ≡ map f l
   unfolding change
   change-map-same f number n g e [] = refl
-  change-map-same {B = B} f number n g e (x ∷ xs) = two (go (number x is n)) (change-map-same f number n g e xs)
+  change-map-same f number n g e (x ∷ xs) = λ i. go (number x is n) i ∷ change-map-same f number n g e xs i
     where
       go : (b : Bool) → f (cond b (g x) x) ≡ f x
       go true = e x
       go false = refl
-
-      two : {y z : B} {ys zs : List B} → y ≡ z → ys ≡ zs → _≡_ {A = List B} (y ∷ ys) (z ∷ zs)
-      two p q = λ i. p i ∷ q i
 
   -- a member of the changed list: an unchanged one of another number, or a changed one
   pub member-change : (number : A → ℕ) (n : ℕ) (g : A → A) (l : List A) (a : A) → List·Memᴰ a (change number n g l)

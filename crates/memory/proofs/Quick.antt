@@ -1,4 +1,4 @@
--- The quick pass over a memory's times: an or of numbers under 2^63 tells that each is, and then no difference wrapped.
+-- The quick pass over a memory's times: where an or of numbers is under 2^63 each of them is, and no difference wrapped.
 use mathlib.Core.Path.{_≡_}
 use mathlib.Core.Bool.{false}
 use mathlib.Core.List.{List}

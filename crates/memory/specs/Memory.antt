@@ -19,14 +19,14 @@ memoryCount = 5
 abbrev pub memoryPlaces : ℕ
 memoryPlaces = memoryCount * mostEntries
 
--- ---- an entry of its numbers; what stands past the end of a list of entries
+-- ---- an entry of its numbers, and the one of zeros
 abbrev pub entryOf : ℕ → ℕ → ℕ → ℕ → Entry
 entryOf slot holder time count = record { slot = slot; holder = holder; time = time; count = count }
 
 abbrev pub noEntry : Entry
 noEntry = entryOf 0 0 0 0
 
--- the next number of each entry
+-- functions that each still want one number, given the numbers of a list
 abbrev pub given : {B : Type 0} → List (ℕ → B) → List ℕ → List B
 given fs xs = zipWith (λ f x. f x) fs xs
 

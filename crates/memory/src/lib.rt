@@ -1,6 +1,6 @@
-// A replay memory (document 01's nonce memory): its entries stand in four lent slices, slots, holders, times and
-// counts, one number of each entry in each. Everything is total: where the slices differ in length, the entries are as
-// many as the shortest has.
+// A replay memory (document 01's nonce memory): four lent slices, slots, holders, times and counts, with one number of
+// each entry in each. Everything is total: where the slices differ in length, there are as many entries as the shortest
+// has numbers.
 ghost use mathlib.Core.Path.{_≡_};
 ghost use mathlib.Core.Bool.{true, false};
 ghost use Prim.Native.Nat.{ℕ, _-_, _≤_};
@@ -40,7 +40,7 @@ fn floor_of(mark: u64) -> u64
     }
 }
 
-// A quick pass over the first n times: true says that none is below the floor; false says nothing. It has no branch and
+// A quick pass over the first n times: if true, none is below the floor; if false, nothing is known. It has no branch and
 // no comparison, so that several times are taken at once. With a floor under 2^63 a time below it wraps to a difference
 // of 2^63 or more, which the highest bit shows; that of a time far above the floor shows it too.
 fn none_below(times: &[u64], n: usize, floor: u64) -> bool
@@ -70,7 +70,7 @@ fn any_below(times: &[u64], n: usize, floor: u64) -> bool
     r
 }
 
-// Whether one of the first n times is outlived. Mostly none is, which the quick pass tells.
+// Whether one of the first n times is outlived. Mostly none is, which the quick pass finds out.
 fn stale(times: &[u64], n: usize, mark: u64) -> bool
     requires { ⌜ n ≤ length (now times) ⌝ }
     ensures { λ r. ⌜ r ≡ some? (λ (t : ℕ). ltb t (mark - timeWindow)) (take n (now (times .entry))) ⌝ }
@@ -82,7 +82,7 @@ fn stale(times: &[u64], n: usize, mark: u64) -> bool
     any_below(times, n, floor)
 }
 
-// Moves each of the n entries that live to the front, in their order, and counts them. What stands from there on stays.
+// Moves each of the n entries that live to the front, in their order, and counts them. The places behind them stay.
 fn compact(
     slots: &mut [u8],
     holders: &mut [u32],
@@ -115,8 +115,8 @@ fn compact(
     k
 }
 
-// The memory without its outlived entries: those that live stand at the front, in their order, and are counted. Where
-// none is outlived nothing is written.
+// Drops the outlived entries: those that live are at the front afterwards, in their order, and are counted. Where none is
+// outlived nothing is written.
 pub fn purge(
     slots: &mut [u8],
     holders: &mut [u32],

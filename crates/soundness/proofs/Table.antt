@@ -1,5 +1,5 @@
--- A table's columns are its places' numbers, versions, sizes and starts; so the tests of columns tell whether its partition
--- is sound.
+-- A table's columns are its objects' numbers, versions, sizes and starts; so its partition is sound where the tests of the
+-- columns pass.
 use mathlib.Core.Path.{_≡_, sym, ap, _∙_}
 use mathlib.Core.Bool.{Bool, true, _&&_, and-assoc}
 use mathlib.Core.List.{List, map}

@@ -18,15 +18,15 @@ use state::TABLE;
 use state::VERSIONS;
 use std::num::wrapping_add_u32;
 
-// A number from 1, a nonempty extent inside the quarter, a version not over the last given. An end that wrapped does not
-// stand over its start.
+// A number from 1, a nonempty extent inside the quarter, a version not over the last given. An end that wrapped is not
+// over its start.
 fn is_sound(number: u32, start: u32, end: u32, version: u32, quarter: u32, last: u32) -> bool
     ensures { λ r. ⌜ r ≡ soundSpan quarter last number start end version ⌝ }
 {
     (1 <= number) & (start < end) & (end <= quarter) & (version <= last)
 }
 
-// Where an extent ends. The contract tells of the size, too, what is known of a parameter.
+// Where an extent ends. The contract also says that the size has 32 bits, which is known of a parameter alone.
 fn end_of(start: u32, size: u32) -> u32
     ensures { λ r. ⌜ (r ≡ (start + size) % 2 ^ 32) × (size < 2 ^ 32) ⌝ }
 {
@@ -71,7 +71,7 @@ fn all_sound(
 }
 
 // Whether object n shares neither a number nor a byte with one before it. The loop goes over all sixteen places, and not
-// to n: a loop of fixed length without a branch is what a compiler tests several objects at a time in.
+// to n: of a loop of fixed length without a branch, a compiler makes one that tests several objects at a time.
 fn is_clear(numbers: &[u32], starts: &[u32], ends: &[u32], n: usize) -> bool
     requires { ⌜ (n < mostObjects) × (length (now numbers) ≡ mostObjects) × (length (now starts) ≡ mostObjects) × (length (now ends) ≡ mostObjects) ⌝ }
     ensures { λ r. ⌜ r ≡ clearAt (now (numbers .entry)) (now (starts .entry)) (now (ends .entry)) n ⌝ }
@@ -89,7 +89,7 @@ fn is_clear(numbers: &[u32], starts: &[u32], ends: &[u32], n: usize) -> bool
 }
 
 // Whether no two of the first n clash. The loop goes to n rounded up to a multiple of eight, and an object from n on counts
-// as clear: so none is left over that a compiler tests alone. Its place is read from an array: with the bare i in that test,
+// as clear: so none is left over that would be tested alone. Its place is read from an array: with the bare i in that test,
 // the loop was measured to be twice as slow.
 fn all_clear(numbers: &[u32], starts: &[u32], ends: &[u32], n: usize) -> bool
     requires { ⌜ (n ≤ mostObjects) × (length (now numbers) ≡ mostObjects) × (length (now starts) ≡ mostObjects) × (length (now ends) ≡ mostObjects) ⌝ }

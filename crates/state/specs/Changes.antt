@@ -12,7 +12,7 @@ use Rattle.rules.specs.Drive.{mostObjects}
 use Rattle.rules.specs.Operations.{withVersion}
 use Rattle.state.specs.Table.{versionAt, lastAt, countAt, tableSize, places, objectsIn}
 
--- what a table says: its version, the last version given, its count, and what stands at all its places
+-- what a table says: its version, the last version given, its count, and the objects at all its places
 pub record Content : Type 0 where
   pub version : ℕ
   pub last : ℕ
@@ -41,7 +41,7 @@ pub record ChangedTo (t u : List ℕ) (c : Content) : Type 0 where
   pub table : length t ≡ tableSize → HasContent t u c
   pub other : (length t ≡ tableSize → ⊥) → u ≡ t
 
--- the table with the objects f at the first places, and with o at place i; all else as it was
+-- the table with the objects f at the first places, and the table with o at place i; all else as it was
 abbrev pub contentWithFront : List Object → List ℕ → Content
 contentWithFront f t = withObjects (withFront f (places t)) (contentOf t)
 
@@ -57,7 +57,7 @@ raisedContent number v t = record {
   objects = cond (number is 0) (places t) (withFront (change Object.number number (withVersion v) (objectsIn t)) (places t));
 }
 
--- 5. the object joins behind those that are held, where there is room; its version is the last given
+-- 5. one object more behind the others, where there is room; its version is the last given
 unfoldable pub createdContent : Object → List ℕ → Content
 createdContent o t = record {
   version = getD t versionAt 0;

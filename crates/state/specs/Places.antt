@@ -1,4 +1,4 @@
--- Laws of a table's places: how many, each of them, what is held, and a search among it.
+-- Laws of a table's places: how many there are, each of them, the objects in use, and a search among these.
 use mathlib.Core.Path.{_≡_, refl, sym, ap, _∙_}
 use mathlib.Core.Bool.{Bool, true, false, cond}
 use mathlib.Core.Option.{none, some}
@@ -50,12 +50,12 @@ pub places-at : (t : List ℕ) (i : ℕ) → i < mostObjects → getD (places t)
 unfolding places
 places-at t i h = let e : 0 + i ≡ i = omega arith in range-at (objectAt t) 0 mostObjects i noObject h ∙ ap (objectAt t) e
 
--- ---- what is held
+-- ---- the objects in use
 pub objects-length : (t : List ℕ) → length (objectsIn t) ≡ min (countIn t) mostObjects
 unfolding objectsIn
 objects-length t = length-take (countIn t) (places t) ∙ ap (min (countIn t)) (places-length t)
 
--- a list that holds something is a table
+-- a list with an object in use is a table
 pub objects-table : (t : List ℕ) → 0 < length (objectsIn t) → length t ≡ tableSize
 objects-table t h = go (length t is tableSize) refl (omega (arith, objects-length t))
   where
@@ -78,7 +78,7 @@ pub view-is : (t : List ℕ) → length t ≡ tableSize → getD t countAt 0 ≤
 unfolding partitionView partitionIn objectsIn
 view-is t e h = rw (padded-is mostObjects noObject (getD t countAt 0) (places t) h, count-is t e) refl
 
--- ---- a search by number that stands at place i
+-- ---- a search by number that has come to place i
 module _ (t : List ℕ) (number i : ℕ) (more : i < length (objectsIn t))
     (none-yet : find Object.number number (take i (objectsIn t)) ≡ none) where
   number-at : getD (objectsIn t) i noObject .number ≡ getD t (numbersFrom + i) 0

@@ -63,7 +63,7 @@ unchanged t c n = record { table = λ l. absurd (n l); other = λ m. refl }
 pub changed-table : (t u : List ℕ) (c : Content) → length t ≡ tableSize → HasContent t u c → ChangedTo t u c
 changed-table t u c l b = record { table = λ m. b; other = λ n. absurd (n l) }
 
--- what is held stands at the first places
+-- the objects in use are at the first places
 objects-front : (t : List ℕ) → places t ≡ withFront (objectsIn t) (places t)
 unfolding objectsIn
 objects-front t = front-taken (countIn t) (places t)
@@ -134,7 +134,7 @@ content-stored t j o l h = record {
   );
 }
 
--- ---- operation 4: the first i are renewed, and now one more is looked at
+-- ---- operation 4: the first i objects have been looked at, and now one more is
 module _ (t u : List ℕ) (number v i : ℕ) (l : length t ≡ tableSize) (more : i < length (objectsIn t))
     (b : HasContent t u (contentWithFront (change Object.number number (withVersion v) (take i (places t))) t)) where
   abbrev renewal : Object → Object
@@ -152,7 +152,7 @@ module _ (t u : List ℕ) (number v i : ℕ) (l : length t ≡ tableSize) (more 
       ap (λ (o : Object). set (places u) i (renewal o)) (sym (places-at u i low))
       ∙ front-map renewal (places t) (places u) i noObject (omega (arith, low, places-length t)) (ap Content.objects (b .says))
 
-  -- its object is renewed, or is another's
+  -- the table after that, where object i is stored again, renewed or not
   next : (w : List ℕ) → length w ≡ length u
       → contentOf w ≡ withObjects (set (places u) i (renewal (objectAt u i))) (contentOf u)
       → HasContent t w (contentWithFront renewing-next t)
@@ -177,7 +177,7 @@ module _ (t u : List ℕ) (number v i : ℕ) (l : length t ≡ tableSize) (more 
       (sym (set-getD (places u) i noObject) ∙ ap (set (places u) i) (places-at u i low))
       ∙ rw (ne-eqb (getD u (numbersFrom + i) 0) number e) refl)
 
--- ---- operation 6: of the first i those of other numbers are kept, k of them, and now one more is looked at
+-- ---- operation 6: the first i objects have been looked at, k of other numbers are kept, and now one more is looked at
 module _ (t u : List ℕ) (number i k : ℕ) (more : i < length (objectsIn t))
     (b : HasContent t u (contentWithFront (keep (λ (a : Object). a .number isnt number) (take i (places t))) t))
     (e : k ≡ length (keep (λ (a : Object). a .number isnt number) (take i (places t)))) where
@@ -195,7 +195,7 @@ module _ (t u : List ℕ) (number i k : ℕ) (more : i < length (objectsIn t))
         omega (arith, objects-length t, objects-length u),
       )
 
-  -- o, which the code met, is the object i that t held
+  -- o, which the code read, is object i of t
   module _ (o : Object) (q : o ≡ getD (objectsIn u) i noObject) where
     is-it : getD (places t) i noObject ≡ o
     is-it = sym (q ∙ objects-at u i (inside .2) ∙ sym (places-at u i (inside .0))

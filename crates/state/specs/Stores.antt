@@ -1,4 +1,4 @@
--- Laws of stores into a table: what a store does to its heads and its places.
+-- Laws of stores into a table: what a store does to its first three numbers and to its objects.
 use mathlib.Core.Path.{_≡_, sym, ap, _∙_}
 use mathlib.Core.List.{List}
 use Prim.Native.Nat.{ℕ, _+_, _<_}
@@ -23,14 +23,14 @@ use Rattle.state.specs.Table.{
 use Rattle.state.specs.Places.{places-length, places-at}
 
 -- ---- one place changes, or none
-pub places-same : (t u : List ℕ) → ((i : ℕ) → i < mostObjects → objectAt u i ≡ objectAt t i) → places u ≡ places t
+places-same : (t u : List ℕ) → ((i : ℕ) → i < mostObjects → objectAt u i ≡ objectAt t i) → places u ≡ places t
 places-same t u f =
     let n = places-length u in
     ext-getD noObject (places u) (places t) (n ∙ sym (places-length t)) (λ i h.
     let m : i < mostObjects = omega arith in
     places-at u i m ∙ f i m ∙ sym (places-at t i m))
 
-pub places-put : (t u : List ℕ) (j : ℕ) (o : Object) → j < mostObjects → objectAt u j ≡ o
+places-put : (t u : List ℕ) (j : ℕ) (o : Object) → j < mostObjects → objectAt u j ≡ o
     → ((i : ℕ) → i < mostObjects → (i ≡ j → ⊥) → objectAt u i ≡ objectAt t i) → places u ≡ set (places t) j o
 places-put t u j o k e f =
     let n = places-length u in
@@ -46,20 +46,24 @@ places-put t u j o k e f =
         ∙ ap (λ (x : ℕ). getD (set (places t) j o) x noObject) (sym q)
     at i w (no q) = f i w q ∙ sym (places-at t i w) ∙ sym (getD-set-other (places t) j i o noObject q)
 
--- ---- a store at one of the three heads
-head-object : (t : List ℕ) (j v i : ℕ) → j < numbersFrom → objectAt (set t j v) i ≡ objectAt t i
+-- ---- a store at a number that is none of object i's
+abbrev Apart : ℕ → ℕ → Type 0
+Apart k i = (numbersFrom + i ≡ k → ⊥) × (versionsFrom + i ≡ k → ⊥) × (sizesFrom + i ≡ k → ⊥) × (startsFrom + i ≡ k → ⊥)
+
+object-apart : (t : List ℕ) (k v i : ℕ) → Apart k i → objectAt (set t k v) i ≡ objectAt t i
 unfolding objectAt
-head-object t j v i h = rw (
-  getD-set-other t j (numbersFrom + i) v 0 (λ e. omega arith),
-  getD-set-other t j (versionsFrom + i) v 0 (λ e. omega arith),
-  getD-set-other t j (sizesFrom + i) v 0 (λ e. omega arith),
-  getD-set-other t j (startsFrom + i) v 0 (λ e. omega arith),
+object-apart t k v i n = rw (
+  getD-set-other t k (numbersFrom + i) v 0 (n .0),
+  getD-set-other t k (versionsFrom + i) v 0 (n .1),
+  getD-set-other t k (sizesFrom + i) v 0 (n .2),
+  getD-set-other t k (startsFrom + i) v 0 (n .3),
 )
 
+-- ---- a store at one of the first three numbers
 pub places-head : (t : List ℕ) (j v : ℕ) → j < numbersFrom → places (set t j v) ≡ places t
-places-head t j v h = places-same t (set t j v) (λ i m. head-object t j v i h)
+places-head t j v h = places-same t (set t j v) (λ i m. object-apart t j v i (omega arith))
 
--- before the count, a store leaves what is held
+-- a store before the count leaves the objects in use
 pub objects-head : (t : List ℕ) (j v : ℕ) → j < countAt → objectsIn (set t j v) ≡ objectsIn t
 unfolding objectsIn
 objects-head t j v h = rw (
@@ -83,12 +87,7 @@ places-version t j v l h = places-put t (set t (versionsFrom + j) v) j (withVers
     )
 
     there : (i : ℕ) → i < mostObjects → (i ≡ j → ⊥) → objectAt (set t (versionsFrom + j) v) i ≡ objectAt t i
-    there i k n = rw (
-      getD-set-other t (versionsFrom + j) (numbersFrom + i) v 0 (λ e. omega arith),
-      getD-set-other t (versionsFrom + j) (versionsFrom + i) v 0 (λ e. omega arith),
-      getD-set-other t (versionsFrom + j) (sizesFrom + i) v 0 (λ e. omega arith),
-      getD-set-other t (versionsFrom + j) (startsFrom + i) v 0 (λ e. omega arith),
-    )
+    there i k n = object-apart t (versionsFrom + j) v i (omega arith)
 
 -- ---- an object stored at place j: its four numbers
 abbrev pub stored : List ℕ → ℕ → Object → List ℕ
@@ -109,16 +108,13 @@ module _ (t : List ℕ) (j : ℕ) (o : Object) where
       length-set three (startsFrom + j) (o .start) ∙ length-set two (sizesFrom + j) (o .size) ∙ length-set one (versionsFrom + j) (o .version)
       ∙ length-set t (numbersFrom + j) (o .number)
 
-  -- every other number stays
-  pub stored-other : (k : ℕ) → (k ≡ numbersFrom + j → ⊥) → (k ≡ versionsFrom + j → ⊥) → (k ≡ sizesFrom + j → ⊥) → (k ≡ startsFrom + j → ⊥)
-      → getD (stored t j o) k 0 ≡ getD t k 0
-  stored-other k n1 n2 n3 n4 =
-      getD-set-other three (startsFrom + j) k (o .start) 0 n4 ∙ getD-set-other two (sizesFrom + j) k (o .size) 0 n3
-      ∙ getD-set-other one (versionsFrom + j) k (o .version) 0 n2 ∙ getD-set-other t (numbersFrom + j) k (o .number) 0 n1
-
+  -- the first three numbers stay
   pub stored-head : (k : ℕ) → k < numbersFrom → getD (stored t j o) k 0 ≡ getD t k 0
   stored-head k h =
-      stored-other k (λ e. omega arith) (λ e. omega arith) (λ e. omega arith) (λ e. omega arith)
+      getD-set-other three (startsFrom + j) k (o .start) 0 (λ e. omega arith)
+      ∙ getD-set-other two (sizesFrom + j) k (o .size) 0 (λ e. omega arith)
+      ∙ getD-set-other one (versionsFrom + j) k (o .version) 0 (λ e. omega arith)
+      ∙ getD-set-other t (numbersFrom + j) k (o .number) 0 (λ e. omega arith)
 
   module _ (l : length t ≡ tableSize) (h : j < mostObjects) where
     number-here : getD (stored t j o) (numbersFrom + j) 0 ≡ o .number
@@ -149,13 +145,11 @@ module _ (t : List ℕ) (j : ℕ) (o : Object) where
     here = rw (number-here, version-here, size-here, start-here)
 
     there : (i : ℕ) → i < mostObjects → (i ≡ j → ⊥) → objectAt (stored t j o) i ≡ objectAt t i
-    unfolding objectAt
-    there i k n = rw (
-      stored-other (numbersFrom + i) (λ e. omega arith) (λ e. omega arith) (λ e. omega arith) (λ e. omega arith),
-      stored-other (versionsFrom + i) (λ e. omega arith) (λ e. omega arith) (λ e. omega arith) (λ e. omega arith),
-      stored-other (sizesFrom + i) (λ e. omega arith) (λ e. omega arith) (λ e. omega arith) (λ e. omega arith),
-      stored-other (startsFrom + i) (λ e. omega arith) (λ e. omega arith) (λ e. omega arith) (λ e. omega arith),
-    )
+    there i k n =
+        object-apart three (startsFrom + j) (o .start) i (omega arith)
+        ∙ object-apart two (sizesFrom + j) (o .size) i (omega arith)
+        ∙ object-apart one (versionsFrom + j) (o .version) i (omega arith)
+        ∙ object-apart t (numbersFrom + j) (o .number) i (omega arith)
 
     pub places-stored : places (stored t j o) ≡ set (places t) j o
     places-stored = places-put t (stored t j o) j o h here there

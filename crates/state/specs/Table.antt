@@ -13,7 +13,7 @@ use Rattle.rules.specs.Operations.{noObject}
 use Rattle.state.specs.declared.Lookup.{Lookup}
 use Rattle.state.specs.Padded.{padded}
 
--- where the partition's version stands, the last version given, and how many objects there are
+-- the places of the partition's version, of the last version given, and of the count of objects
 abbrev pub versionAt : ℕ
 versionAt = 0
 
@@ -23,7 +23,8 @@ lastAt = 1
 abbrev pub countAt : ℕ
 countAt = 2
 
--- from where on the objects' numbers stand, their versions, sizes and starts, one of each for every place
+-- the first places of the objects' numbers, versions, sizes and starts; there are as many of each as a partition may
+-- have objects
 abbrev pub numbersFrom : ℕ
 numbersFrom = 3
 
@@ -54,15 +55,15 @@ abbrev pub range : ℕ → ℕ → List ℕ
 range a zero = []
 range a (suc n) = a ∷ range (a + 1) n
 
--- what stands at its places
+-- the objects at all its places, in use or not
 unfoldable pub places : List ℕ → List Object
 places t = map (objectAt t) (range 0 mostObjects)
 
--- how many of them are objects; none where the list is no table
+-- how many of them are in use: none where the list is no table
 abbrev pub countIn : List ℕ → ℕ
 countIn t = cond (length t is tableSize) (getD t countAt 0) 0
 
--- "Objects: at most mostObjects a partition, in order of creation"
+-- "Objects: at most 16 a partition, in order of creation"
 unfoldable pub objectsIn : List ℕ → List Object
 objectsIn t = take (countIn t) (places t)
 
@@ -70,8 +71,8 @@ objectsIn t = take (countIn t) (places t)
 unfoldable pub partitionIn : List ℕ → rules.Partition Object
 partitionIn t = record { version = getD t versionAt 0; last = getD t lastAt 0; objects = objectsIn t }
 
--- the same of any table whatever: a count over sixteen is that many objects, those past the places of number 0, so that
--- no such table is sound
+-- the same where the count may be over sixteen: then there are that many objects, the last of them with number 0, so that
+-- such a table is not sound
 unfoldable pub partitionView : List ℕ → rules.Partition Object
 partitionView t = record {
   version = getD t versionAt 0;

@@ -17,7 +17,7 @@ use rules::Object;
 // At most so many objects a partition.
 pub const MOST_OBJECTS: usize = 16;
 
-// Where in a table its numbers stand, as in specs/Table.antt.
+// The places of a table's numbers, as in specs/Table.antt.
 pub const VERSION: usize = 0;
 
 pub const LAST: usize = 1;
@@ -35,7 +35,7 @@ pub const STARTS: usize = SIZES + MOST_OBJECTS;
 // How many numbers a table has.
 pub const TABLE: usize = STARTS + MOST_OBJECTS;
 
-// What a number names: whether nothing, and the object, all zeros where nothing.
+// The object that has a number; `missing` where there is none, and then the object is all zeros.
 pub struct Lookup {
     pub missing: bool,
     pub object: Object,
@@ -158,8 +158,8 @@ pub fn create(table: &mut [u32], o: Object)
     table[COUNT] = (n + 1) as u32;
 }
 
-// Operation 6: the object goes. The others move to the front, in their order, and are counted; what stands from there
-// on stays.
+// Operation 6: the object goes. The others move to the front, in their order, and are counted; the places behind them
+// stay as they are.
 pub fn delete(table: &mut [u32], number: u32)
     ensures { λ _. ⌜ ChangedTo (now (table .entry)) (now (table .exit)) (deletedContent number (now (table .entry))) ⌝ }
 {

@@ -13,15 +13,11 @@ use Rattle.keyring.specs.Keys.{keysSize, keyCount}
 there : (t : tie.Else1) → let a = t .before .args in (length (a .keys .now) is keysSize && a .j under keyCount) ≡ true
 there t = let a = t .before .args in not-false (length (a .keys .now) is keysSize && a .j under keyCount) (t .if1 .left)
 
-low : (t : tie.Else1) → t .before .args .j < keyCount
-low t =
+inside : (t : tie.Else1) → let a = t .before .args in (length (a .keys .now) ≡ keysSize) × (a .j < keyCount)
+inside t =
     let a = t .before .args in
-    ltb-true (a .j) keyCount (and-r (length (a .keys .now) is keysSize) (a .j under keyCount) (there t))
-
-long : (t : tie.Else1) → length (t .before .args .keys .now) ≡ keysSize
-long t =
-    let a = t .before .args in
-    eqb-true (length (a .keys .now)) keysSize (and-l (length (a .keys .now) is keysSize) (a .j under keyCount) (there t))
+    let h = there t in
+    (eqb-true (length (a .keys .now)) keysSize (search and-l), ltb-true (a .j) keyCount (search (and-l, and-r)))
 
 returns : tie.Need-returns
 returns c =
@@ -34,4 +30,4 @@ pub is-set-spec : {M : Type 1} → statement M
 is-set-spec =
     tie.close
     (tie.spec
-    returns (λ c. omega (arith, low c)) (λ c. omega (arith, low (c .before), long (c .before))) returns-2)
+    returns (λ c. omega (arith, inside c)) (λ c. omega (arith, inside (c .before))) returns-2)

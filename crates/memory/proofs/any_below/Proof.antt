@@ -1,4 +1,4 @@
--- r tells of the first i times (some-take).
+-- r: whether one of the first i times is below the floor (some-take).
 use mathlib.Core.Path.{_≡_}
 use Prim.Native.Nat.{ℕ, _-_, _≤_}
 use native.Mathlib.Omega.{arith}

@@ -1,4 +1,4 @@
--- The entries that live of the first i stand at the front, k of them, and behind them all is as it was (entry-kept,
+-- The entries that live of the first i are at the front, k of them, and behind them all is as it was (entry-kept,
 -- entry-dropped).
 use mathlib.Core.Path.{_≡_, refl, sym, ap, _∙_}
 use Prim.Native.Nat.{_-_, _<_, _≤_}

@@ -1,4 +1,4 @@
--- r tells of the first `at` entries (some-take).
+-- r: whether one of the first `at` entries is the nonce (some-take).
 use mathlib.Core.Path.{_≡_}
 use Prim.Native.Nat.{_-_, _<_, _≤_}
 use native.Mathlib.Omega.{arith}

@@ -1,4 +1,4 @@
--- vacant and to tell of the first i objects (every-take, next-take).
+-- vacant and to: what the first i objects leave of the run (every-take, next-take).
 use mathlib.Core.Path.{_≡_, refl}
 use mathlib.Core.Bool.{_||_}
 use Prim.Native.Nat.{_+_, _-_, _≤_, _<_}

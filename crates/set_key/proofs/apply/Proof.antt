@@ -57,15 +57,11 @@ there : (t : tie.Else1) → let a = t .before .before .before .before .before .b
     isSet (a .keys .now) (t .before .before .before .key-index .result) ≡ true
 there t = sym (t .before .is-set .ensures) ∙ not-false (t .before .is-set .result) (t .if1 .left)
 
-low : (t : tie.Else1) → t .before .before .before .key-index .result < keyCount
-low t =
+inside : (t : tie.Else1) → let a = t .before .before .before .before .before .before .before .before .before .args in
+    (length (a .keys .now) ≡ keysSize) × (t .before .before .before .key-index .result < keyCount)
+inside t =
     let a = t .before .before .before .before .before .before .before .before .before .args in
-    set-there (a .keys .now) (t .before .before .before .key-index .result) (there t) .1
-
-long : (t : tie.Else1) → length (t .before .before .before .before .before .before .before .before .before .args .keys .now) ≡ keysSize
-long t =
-    let a = t .before .before .before .before .before .before .before .before .before .args in
-    set-there (a .keys .now) (t .before .before .before .key-index .result) (there t) .0
+    set-there (a .keys .now) (t .before .before .before .key-index .result) (there t)
 
 returns : tie.Need-returns
 returns c =
@@ -97,6 +93,6 @@ apply-spec =
     tie.close
     (tie.spec
     (λ c. search needs) returns (λ c κs. search needs) (λ c κs. search needs) (λ c. search needs) returns-2
-    (λ c. omega (arith, low c)) (λ c. omega (arith, low c)) (λ c. omega (arith, low c)) (λ c. search needs)
-    (λ c. search needs) (λ c. omega (arith, low (c .before), long (c .before))) (λ c κs. search needs)
+    (λ c. omega (arith, inside c)) (λ c. omega (arith, inside c)) (λ c. omega (arith, inside c)) (λ c. search needs)
+    (λ c. search needs) (λ c. omega (arith, inside (c .before))) (λ c κs. search needs)
     (λ c. search needs) (λ c. search needs) (λ c κs. search needs) (λ c. search needs) returns-3)

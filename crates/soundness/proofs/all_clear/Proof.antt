@@ -1,4 +1,4 @@
--- free tells of the places under i (each-more); those from n on count as clear (each-placed).
+-- free: whether all places under i are clear (each-more); those from n on count as clear (each-placed).
 use mathlib.Core.Path.{_≡_, refl, _∙_}
 use mathlib.Core.Bool.{_||_}
 use Prim.Native.Nat.{ℕ, _-_, _≤_}

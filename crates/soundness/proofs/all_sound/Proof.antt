@@ -1,4 +1,4 @@
--- r tells of the places under i (each-more).
+-- r: whether all places under i are sound (each-more).
 use mathlib.Core.Path.{_≡_, refl}
 use Prim.Native.Nat.{_-_, _≤_}
 use native.Mathlib.Omega.{arith}

@@ -1,4 +1,4 @@
--- hit tells of the places under i (each-more).
+-- hit: whether a place under i clashes (each-more).
 use mathlib.Core.Path.{_≡_, refl, ap, _∙_}
 use mathlib.Core.Bool.{not, _&&_, _||_}
 use Prim.Native.Nat.{ℕ, _-_, _≤_}

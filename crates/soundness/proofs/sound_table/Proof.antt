@@ -1,4 +1,4 @@
--- A list of another length is no table; of a table the tests of its columns tell whether it is sound (table-sound).
+-- A list of another length is no table; a table is sound where the tests of its columns pass (table-sound).
 use mathlib.Core.Path.{refl}
 use mathlib.Core.Bool.{_&&_, false≢true}
 use Prim.Native.Nat.{_^_, _<_}

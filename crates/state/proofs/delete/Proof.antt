@@ -1,4 +1,4 @@
--- Of the first i objects those of other numbers stand at the front, `left` of them (delete-kept, delete-passed).
+-- Of the first i objects those of other numbers are at the front, `left` of them (delete-kept, delete-passed).
 use mathlib.Core.Path.{_≡_, refl, _∙_}
 use Prim.Native.Nat.{_-_, _≤_, _<_}
 use native.Mathlib.Omega.{arith}

@@ -31,64 +31,25 @@ loop-holds c = (search needs, c .before .before .before .before .before .pre, re
 -- memory m is one of five, and its places are within the arrays
 inside : (t : tie.After-slice-known6 Inv-loop μ-loop) → let l = t .before .before .loop in
     (l .m < memoryCount) × (getD (l .lengths) (l .m) 0 ≤ mostEntries)
+    × MemoriesFit (l .lengths) (l .slots) (l .holders) (l .times) (l .counts)
 inside t =
     let l = t .before .before .loop in
-    (omega (arith, t .before .loop-test .taken), short-at (l .lengths) (l .m) (l .inv .1 .entries))
+    (omega (arith, t .before .loop-test .taken), short-at (l .lengths) (l .m) (l .inv .1 .entries), l .inv .1)
 
 slice-read-end : tie.Need-slice-read-end Inv-loop μ-loop
-slice-read-end c = let l = c .before .before .loop in let h = l .inv .1 .five in let k = inside c in omega arith
+slice-read-end c = let h = inside c in omega arith
 
-add-end : tie.Need-add-end Inv-loop μ-loop
-add-end c = let l = c .before .before .loop in let p = l .inv .1 in let h = inside c in search needs
-
-part-purge-start : tie.Need-part-purge-start Inv-loop μ-loop
-part-purge-start c = let l = c .before .before .loop in let p = l .inv .1 in let h = inside c in search needs
-
-part-purge-end : tie.Need-part-purge-end Inv-loop μ-loop
-part-purge-end c = let l = c .before .before .loop in let p = l .inv .1 in let h = inside c in search needs
-
-mul-purge : tie.Need-mul-purge Inv-loop μ-loop
-mul-purge c = let l = c .before .before .before .loop in let p = l .inv .1 in let h = inside (c .before) in search needs
-
-part-purge-start-2 : tie.Need-part-purge-start-2 Inv-loop μ-loop
-part-purge-start-2 c = let l = c .before .before .before .loop in let p = l .inv .1 in let h = inside (c .before) in search needs
-
-part-purge-end-2 : tie.Need-part-purge-end-2 Inv-loop μ-loop
-part-purge-end-2 c = let l = c .before .before .before .loop in let p = l .inv .1 in let h = inside (c .before) in search needs
-
-mul-purge-2 : tie.Need-mul-purge-2 Inv-loop μ-loop
-mul-purge-2 c = let l = c .before .before .before .before .loop in let p = l .inv .1 in let h = inside (c .before .before) in search needs
-
-part-purge-start-3 : tie.Need-part-purge-start-3 Inv-loop μ-loop
-part-purge-start-3 c = let l = c .before .before .before .before .loop in let p = l .inv .1 in let h = inside (c .before .before) in search needs
-
-part-purge-end-3 : tie.Need-part-purge-end-3 Inv-loop μ-loop
-part-purge-end-3 c = let l = c .before .before .before .before .loop in let p = l .inv .1 in let h = inside (c .before .before) in search needs
-
-mul-purge-3 : tie.Need-mul-purge-3 Inv-loop μ-loop
-mul-purge-3 c = let l = c .before .before .before .before .before .loop in let p = l .inv .1 in let h = inside (c .before .before .before) in search needs
-
-part-purge-start-4 : tie.Need-part-purge-start-4 Inv-loop μ-loop
-part-purge-start-4 c = let l = c .before .before .before .before .before .loop in let p = l .inv .1 in let h = inside (c .before .before .before) in search needs
-
-part-purge-end-4 : tie.Need-part-purge-end-4 Inv-loop μ-loop
-part-purge-end-4 c = let l = c .before .before .before .before .before .loop in let p = l .inv .1 in let h = inside (c .before .before .before) in search needs
-
-slice-write-lengths : tie.Need-slice-write-lengths Inv-loop μ-loop
-slice-write-lengths c = slice-read-end (c .before .before .before .before .before .before .before .before .before .before .before .before .before)
-
-add-m : tie.Need-add-m Inv-loop μ-loop
-add-m c = let h : c .before .before .before .before .before .before .before .before .before .before .before .before .before .before .before .loop .m < memoryCount = inside (c .before .before .before .before .before .before .before .before .before .before .before .before .before) .0 in search needs
-
-loop-less : tie.Need-loop-less Inv-loop μ-loop
-loop-less c = let h : c .before .before .before .before .before .before .before .before .before .before .before .before .before .before .before .loop .m < memoryCount = inside (c .before .before .before .before .before .before .before .before .before .before .before .before .before) .0 in omega (arith, h)
+-- before the purge
+abbrev found : tie.After-slice-known10 Inv-loop μ-loop → tie.After-slice-known6 Inv-loop μ-loop
+found c = c .before .before .before .before .before .before .before .before .before .before .before .before .before
 
 loop-again : tie.Need-loop-again Inv-loop μ-loop
 loop-again c =
-    let l = c .before .before .before .before .before .before .before .before .before .before .before .before .before .before .before .loop in
-    let a = c .before .before .before .before .before .before .before .before .before .before .before .before .before .before .before .before .before .before .before .before .before .args in
-    let w = c .before .before .before .before .before .before .before .before .before .before .before .before .before .before .before .before .before .before .before .before .before .pre in
-    let h = inside (c .before .before .before .before .before .before .before .before .before .before .before .before .before) in
+    let l = found c .before .before .loop in
+    let start = found c .before .before .before .before .before .before .before .before in
+    let a = start .args in
+    let w = start .pre in
+    let h = inside (found c) in
     let p = c .before .before .before .before .before .before .before .before .purge in
     let size : ℕ = mostEntries * l .m + getD (l .lengths) (l .m) 0 - mostEntries * l .m in
     let whole : size ≡ getD (l .lengths) (l .m) 0 = omega arith in
@@ -114,8 +75,13 @@ pub drop-outlived-spec : {M : Type 1} → statement M
 drop-outlived-spec =
     tie.close
     (tie.spec
-    Inv-loop μ-loop
-    loop-holds (λ c. search needs) (λ c. search needs) slice-read-end add-end (λ c. search needs) part-purge-start part-purge-end mul-purge
-    (λ c. search needs) part-purge-start-2 part-purge-end-2 mul-purge-2 (λ c. search needs) part-purge-start-3 part-purge-end-3 mul-purge-3
-    (λ c. search needs) part-purge-start-4 part-purge-end-4 (λ c κs. search needs) (λ c. search needs) slice-write-lengths add-m loop-less
+    Inv-loop μ-loop loop-holds (λ c. search needs) (λ c. search needs) slice-read-end (λ c. let h = inside c in search needs)
+    (λ c. search needs) (λ c. let h = inside c in search needs) (λ c. let h = inside c in search needs)
+    (λ c. let h = inside (c .before) in search needs) (λ c. search needs) (λ c. let h = inside (c .before) in search needs)
+    (λ c. let h = inside (c .before) in search needs) (λ c. let h = inside (c .before .before) in search needs)
+    (λ c. search needs) (λ c. let h = inside (c .before .before) in search needs)
+    (λ c. let h = inside (c .before .before) in search needs) (λ c. let h = inside (c .before .before .before) in search needs)
+    (λ c. search needs) (λ c. let h = inside (c .before .before .before) in search needs)
+    (λ c. let h = inside (c .before .before .before) in search needs) (λ c κs. search needs) (λ c. search needs)
+    (λ c. slice-read-end (found c)) (λ c. let h = inside (found c) .0 in search needs) (λ c. let h = inside (found c) .0 in omega (arith, h))
     loop-again (λ c. search needs) (λ c. search needs) (λ c. search needs) (λ c. search needs) (λ c. search needs) returns)

@@ -1,51 +1,22 @@
 -- The memory's places are one part of each array (part-at), and what is held there is looked through.
 use mathlib.Core.Path.{_≡_, ap, _∙_}
 use mathlib.Core.List.{List}
-use Prim.Native.Nat.{ℕ, _+_, _-_, _*_}
+use Prim.Native.Nat.{ℕ, _+_, _-_, _*_, _≤_}
 use native.Mathlib.Omega.{arith}
 use lib.ListN.{getD}
 use Rattle.lemmas.specs.Lists.{some?}
 use Rattle.rules.specs.declared.Entry.{Entry}
 use Rattle.rules.specs.Drive.{mostEntries, sameEntry}
+use Rattle.drive.specs.View.{MemoriesFit}
 use Rattle.drive.proofs.Memories.{short-at, part-at}
 use borrow.Author.Needs.{needs}
 use Rattle.drive.proofs.replay.is_replayed.Statement.{statement}
 use Rattle.drive.proofs.replay.is_replayed.Tie as tie
 
-add-end : tie.Need-add-end
-add-end c =
-    let pre = c .before .before .before .before .before .before .pre in
-    let p = pre .0 in
-    let h = short-at (c .before .before .before .before .before .before .args .lengths .now) (c .before .before .before .before .before .before .args .k) (p .entries) in
-    search needs
-
-part-holds-end : tie.Need-part-holds-end
-part-holds-end c =
-    let pre = c .before .before .before .before .before .before .pre in
-    let p = pre .0 in
-    let h = short-at (c .before .before .before .before .before .before .args .lengths .now) (c .before .before .before .before .before .before .args .k) (p .entries) in
-    search needs
-
-part-holds-end-2 : tie.Need-part-holds-end-2
-part-holds-end-2 c =
-    let pre = c .before .before .before .before .before .before .before .pre in
-    let p = pre .0 in
-    let h = short-at (c .before .before .before .before .before .before .before .args .lengths .now) (c .before .before .before .before .before .before .before .args .k) (p .entries) in
-    search needs
-
-part-holds-end-3 : tie.Need-part-holds-end-3
-part-holds-end-3 c =
-    let pre = c .before .before .before .before .before .before .before .before .pre in
-    let p = pre .0 in
-    let h = short-at (c .before .before .before .before .before .before .before .before .args .lengths .now) (c .before .before .before .before .before .before .before .before .args .k) (p .entries) in
-    search needs
-
-part-holds-end-4 : tie.Need-part-holds-end-4
-part-holds-end-4 c =
-    let pre = c .before .before .before .before .before .before .before .before .before .pre in
-    let p = pre .0 in
-    let h = short-at (c .before .before .before .before .before .before .before .before .before .args .lengths .now) (c .before .before .before .before .before .before .before .before .before .args .k) (p .entries) in
-    search needs
+-- the places of memory k are within the arrays
+inside : (t : tie.Start) → let a = t .args in (getD (a .lengths .now) (a .k) 0 ≤ mostEntries)
+    × MemoriesFit (a .lengths .now) (a .slots .now) (a .holders .now) (a .times .now) (a .counts .now)
+inside t = (short-at (t .args .lengths .now) (t .args .k) (t .pre .0 .entries), t .pre .0)
 
 returns : tie.Need-returns
 returns c =
@@ -61,6 +32,9 @@ pub is-replayed-spec : {M : Type 1} → statement M
 is-replayed-spec =
     tie.close
     (tie.spec
-    (λ c. search needs) (λ c. search needs) (λ c. search needs) add-end (λ c. search needs) (λ c. search needs) part-holds-end
-    (λ c. search needs) (λ c. search needs) (λ c. search needs) part-holds-end-2 (λ c. search needs) (λ c. search needs) (λ c. search needs)
-    part-holds-end-3 (λ c. search needs) (λ c. search needs) (λ c. search needs) part-holds-end-4 (λ c κs. search needs) returns)
+    (λ c. search needs) (λ c. search needs) (λ c. search needs) (λ c. let h = inside (c .before .before .before .before .before .before) in search needs)
+    (λ c. search needs) (λ c. search needs) (λ c. let h = inside (c .before .before .before .before .before .before) in search needs) (λ c. search needs)
+    (λ c. search needs) (λ c. search needs) (λ c. let h = inside (c .before .before .before .before .before .before .before) in search needs) (λ c. search needs)
+    (λ c. search needs) (λ c. search needs) (λ c. let h = inside (c .before .before .before .before .before .before .before .before) in search needs) (λ c. search needs)
+    (λ c. search needs) (λ c. search needs) (λ c. let h = inside (c .before .before .before .before .before .before .before .before .before) in search needs) (λ c κs. search needs)
+    returns)
