@@ -46,26 +46,20 @@ malformed-broken s h = go (or-cases (leb 2 (length s) && badMark s) (leb recordH
   where
     go : ((leb 2 (length s) && badMark s) ≡ true) ⊎ ((leb recordHead (length s) && tooLong s) ≡ true)
         → (noHead s || badMark s || tooLong s || noFrame s) ≡ true
-    go (inl e) =
-        or-intro-l (noHead s || badMark s || tooLong s) (noFrame s)
-        (or-intro-l (noHead s || badMark s) (tooLong s)
-        (or-intro-r (noHead s) (badMark s) (and-r (leb 2 (length s)) (badMark s) e)))
-    go (inr e) =
-        or-intro-l (noHead s || badMark s || tooLong s) (noFrame s)
-        (or-intro-r (noHead s || badMark s) (tooLong s) (and-r (leb recordHead (length s)) (tooLong s) e))
+    go (inl e) = search (or-intro-l, or-intro-r, and-r (leb 2 (length s)) (badMark s) e)
+    go (inr e) = search (or-intro-l, or-intro-r, and-r (leb recordHead (length s)) (tooLong s) e)
 
 pub head-short : (s : List ℕ) → length s < recordHead → broken s ≡ true
 unfolding broken
-head-short s h =
-    or-intro-l (noHead s || badMark s || tooLong s) (noFrame s)
-    (or-intro-l (noHead s || badMark s) (tooLong s) (or-intro-l (noHead s) (badMark s) (lt-ltb (length s) recordHead h)))
+head-short s h = search (or-intro-l, or-intro-r, lt-ltb (length s) recordHead h)
 
 pub frame-short : (s : List ℕ) → length s < recordHead + frameLength s → broken s ≡ true
 unfolding broken
-frame-short s h = or-intro-r (noHead s || badMark s || tooLong s) (noFrame s) (lt-ltb (length s) (recordHead + frameLength s) h)
+frame-short s h = search (or-intro-l, or-intro-r, lt-ltb (length s) (recordHead + frameLength s) h)
 
 -- and what makes it whole
-pub not-malformed : (s : List ℕ) → malformed s ≡ false → recordHead ≤ length s → (badMark s ≡ false) × (tooLong s ≡ false)
+pub not-malformed : (s : List ℕ) → malformed s ≡ false → recordHead ≤ length s
+    → (badMark s ≡ false) × (tooLong s ≡ false)
 not-malformed s w h = (
   and-rest-false (leb 2 (length s)) (badMark s) (le-leb 2 (length s) (omega arith))
       (or-l (leb 2 (length s) && badMark s) (leb recordHead (length s) && tooLong s) w),
@@ -107,15 +101,12 @@ pub whole-facts : (s : List ℕ) → broken s ≡ false → IsWhole s (callIn s 
 unfolding broken
 whole-facts s e = record {
   whole = e;
-  mark = eqb-true (numberAt s 0 2) recordMagic (not-false (eqb (numberAt s 0 2) recordMagic)
-      (or-r (noHead s) (badMark s)
-      (or-l (noHead s || badMark s) (tooLong s) (or-l (noHead s || badMark s || tooLong s) (noFrame s) e))));
+  mark = eqb-true (numberAt s 0 2) recordMagic (not-false (eqb (numberAt s 0 2) recordMagic) (search (or-l, or-r, e)));
   reading = refl;
   counted = refl;
   frame = refl;
-  most = ltb-false 65_536 (frameLength s)
-      (or-r (noHead s || badMark s) (tooLong s) (or-l (noHead s || badMark s || tooLong s) (noFrame s) e));
-  fits = ltb-false (length s) (recordHead + frameLength s) (or-r (noHead s || badMark s || tooLong s) (noFrame s) e);
+  most = ltb-false 65_536 (frameLength s) (search (or-l, or-r, e));
+  fits = ltb-false (length s) (recordHead + frameLength s) (search (or-l, or-r, e));
 }
 
 pub facts-of-whole : (s : List ℕ) (clock size : ℕ) → factsOf (Whole clock size) ≡ recordFacts s → IsWhole s clock size
@@ -139,8 +130,8 @@ facts-of-short s e =
     let w : malformed s ≡ false = sym (ap RecordFacts.malformed e) in
     (b, w, go b w (decLt (length s) recordHead) (decLt (length s) (recordHead + frameLength s)))
   where
-    go : broken s ≡ true → malformed s ≡ false → Dec (length s < recordHead) → Dec (length s < recordHead + frameLength s)
-        → length s < recordHead + 65_536
+    go : broken s ≡ true → malformed s ≡ false → Dec (length s < recordHead)
+        → Dec (length s < recordHead + frameLength s) → length s < recordHead + 65_536
     go b w (yes h) l = omega arith
     go b w (no h) (yes l) =
         let n = not-malformed s w (omega arith) in

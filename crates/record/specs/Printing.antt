@@ -50,18 +50,15 @@ malformed-tests p q h = go (or-cases (leb 2 (length p) && numberAt p 0 2 isnt re
     go (inl e) =
         let t = and-l (leb 2 (length p)) (numberAt p 0 2 isnt recordMagic) e in
         let m : (numberAt (p ++ q) 0 2 isnt recordMagic) ≡ true =
-        rw (number-left p q 0 2 (leb-true 2 (length p) t)) (and-r (leb 2 (length p)) (numberAt p 0 2 isnt recordMagic) e) in
-        or-intro-l (leb 2 (length (p ++ q)) && numberAt (p ++ q) 0 2 isnt recordMagic)
-        (leb recordHead (length (p ++ q)) && frameLength (p ++ q) over 65_536)
-        (both (longer 2 t) m)
+        rw (number-left p q 0 2 (leb-true 2 (length p) t))
+        (and-r (leb 2 (length p)) (numberAt p 0 2 isnt recordMagic) e) in
+        search (or-intro-l, both (longer 2 t) m)
     go (inr e) =
         let t = and-l (leb recordHead (length p)) (frameLength p over 65_536) e in
         let m : (frameLength (p ++ q) over 65_536) ≡ true =
         rw (length-stays p q (leb-true recordHead (length p) t))
         (and-r (leb recordHead (length p)) (frameLength p over 65_536) e) in
-        or-intro-r (leb 2 (length (p ++ q)) && numberAt (p ++ q) 0 2 isnt recordMagic)
-        (leb recordHead (length (p ++ q)) && frameLength (p ++ q) over 65_536)
-        (both (longer recordHead t) m)
+        search (or-intro-l, or-intro-r, both (longer recordHead t) m)
 
 malformed-some : (p : List ℕ) → malformed p ≡ true → 0 < length p
 malformed-some p h = go (or-cases (leb 2 (length p) && numberAt p 0 2 isnt recordMagic)
