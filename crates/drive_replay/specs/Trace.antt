@@ -8,6 +8,9 @@ headSize = 96
 abbrev pub bufferSize : ℕ
 bufferSize = 70_000
 
+abbrev pub keyLimit : ℕ
+keyLimit = 40
+
 -- the medium, and the bytes behind it
 abbrev pub behind : ℕ
 behind = 8
@@ -17,5 +20,5 @@ mediumSize = 70_008
 
 abbrev pub Fits : Record → Type 0
 Fits r =
-    (r .size ≤ bufferSize) × (r .lent ≤ r .size + behind) × (r .master ≤ 40) × (r .key ≤ 40)
+    (r .size ≤ bufferSize) × (r .lent ≤ r .size + behind) × (r .master ≤ keyLimit) × (r .key ≤ keyLimit)
     × (r .frame ≤ bufferSize) × (r .space ≤ bufferSize)

@@ -85,9 +85,14 @@ fn answer(
 {
     let lent = r.lent;
     if r.kind == trace::FORMAT {
-        let m = 16 + r.master;
-        let k = 56 + r.key;
-        let f = drive::format(&mut medium[..lent], r.first, &head[16..m], &head[56..k]);
+        let m = trace::MASTER_AT + r.master;
+        let k = trace::KEY_AT + r.key;
+        let f = drive::format(
+            &mut medium[..lent],
+            r.first,
+            &head[trace::MASTER_AT..m],
+            &head[trace::KEY_AT..k],
+        );
         let drive = f.drive;
         return Answer {
             row: f.row,

@@ -19,6 +19,16 @@ const SIZE_LIMIT: usize = 70000;
 
 const KEY_LIMIT: usize = 40;
 
+// A record's first part, which tells its kind; a format has a second part.
+const FIRST_PART: usize = 32;
+
+const SECOND_PART: usize = 64;
+
+// Where a format has its two keys.
+pub const MASTER_AT: usize = 16;
+
+pub const KEY_AT: usize = 56;
+
 // The bytes behind the medium that are filled and printed with it.
 pub const BEHIND: usize = 8;
 
@@ -111,20 +121,20 @@ fn fitting(r: Record) -> Record
     r
 }
 
-// A format, whose first 32 bytes have been read into head.
+// A format, whose first part has been read into head.
 fn next_format(head: &mut [u8]) -> Record
     requires { ⌜ length (now head) ≡ headSize ⌝ }
     ensures { λ r. ⌜ Fits r ⌝ }
 {
-    let got = io::read_full(STDIN_FILENO, &mut head[32..]);
-    if got != 64 {
+    let got = io::read_full(STDIN_FILENO, &mut head[FIRST_PART..]);
+    if got != SECOND_PART {
         return nothing(CUT);
     }
     let r = format_in(head);
     fitting(r)
 }
 
-// A call, whose first 32 bytes have been read into head. Its frame goes to the start of frame.
+// A call, whose first part has been read into head. Its frame goes to the start of frame.
 fn next_call(size: usize, head: &[u8], frame: &mut [u8]) -> Record
     requires { ⌜ length (now frame) ≡ bufferSize ⌝ }
     ensures { λ r. ⌜ Fits r ⌝ }
@@ -144,11 +154,11 @@ pub fn next(size: usize, head: &mut [u8], frame: &mut [u8]) -> Record
     requires { ⌜ (length (now head) ≡ headSize) × (length (now frame) ≡ bufferSize) ⌝ }
     ensures { λ r. ⌜ Fits r ⌝ }
 {
-    let got = io::read_full(STDIN_FILENO, &mut head[..32]);
+    let got = io::read_full(STDIN_FILENO, &mut head[..FIRST_PART]);
     if got == 0 {
         return nothing(END);
     }
-    if got != 32 {
+    if got != FIRST_PART {
         return nothing(CUT);
     }
     if head[0] == b'F' {

@@ -1,5 +1,6 @@
 -- What is printed of an input, as far as its first bytes settle it: whatever comes later, the whole is the text so far
--- and then what is printed of the rest. input: the bytes that have arrived. q: those that come later. p: the bytes not yet taken.
+-- and then what is printed of the rest. input: the bytes that have arrived. q: those that come later. p: the bytes not
+-- yet taken.
 use mathlib.Core.Path.{_≡_, refl, sym, ap, _∙_}
 use mathlib.Core.Bool.{false}
 use mathlib.Core.List.{List, [], _++_, append-assoc}

@@ -22,7 +22,7 @@ const READ_SIZE: usize = 65536;
 // The longest input record, and a whole read behind it.
 const INPUT_SIZE: usize = 131086;
 
-// No line is longer.
+// Room for the longest line.
 const LINE_SIZE: usize = 64;
 
 // A proved loop has to end, and nothing says that the input does: after so many bytes the program gives up.

@@ -24,7 +24,8 @@ digits-more f n h = rw (le-ltb n 10 h, digits) refl
 
 -- a byte stored in front of a text
 pub stored-before : (s : List ℕ) (i x : ℕ) → i < length s → drop i (set s i x) ≡ x ∷ drop (suc i) s
-stored-before s i x h = rw (set-split s i x h) (drop-at (take i s) (x ∷ drop (suc i) s) i (length-take-le i s (omega arith)))
+stored-before s i x h =
+    rw (set-split s i x h) (drop-at (take i s) (x ∷ drop (suc i) s) i (length-take-le i s (omega arith)))
 
 -- where the text w is the digits of n and then the bytes behind place i, it still is when the last digit moves to i
 pub digit-stored : (f n i : ℕ) (s w : List ℕ) → 10 ≤ n → i < length s → digits (suc f) n ++ drop (suc i) s ≡ w

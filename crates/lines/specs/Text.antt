@@ -8,6 +8,10 @@ use lib.ListN.{length, drop}
 use Rattle.octets.specs.Numbers.{bytesPut}
 use Rattle.lines.specs.declared.text.Text.{Text}
 
+-- the room for a text, in bytes: the longest line has 63
+abbrev pub textSize : ℕ
+textSize = 64
+
 -- the bytes of a text that is made from its end to its start
 abbrev pub textOf : Text → List ℕ
 textOf t = drop (t .from) (t .bytes)

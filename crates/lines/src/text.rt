@@ -3,7 +3,7 @@ ghost use mathlib.Core.Path.{_≡_};
 ghost use mathlib.Core.List.{[], _∷_, _++_};
 ghost use Prim.Native.Nat.{_+_, _≤_, _<_};
 ghost use Rattle.rules.specs.Program.{decimal, printed};
-ghost use Rattle.lines.specs.Text.{textOf, placeAfter, TextPut};
+ghost use Rattle.lines.specs.Text.{textSize, textOf, placeAfter, TextPut};
 
 // More than the longest line has.
 const TEXT_SIZE: usize = 64;
@@ -16,7 +16,7 @@ pub struct Text {
 
 // No text yet.
 pub fn blank() -> Text
-    ensures { λ r. ⌜ (textOf r ≡ []) × (r .from ≡ 64) ⌝ }
+    ensures { λ r. ⌜ (textOf r ≡ []) × (r .from ≡ textSize) ⌝ }
 {
     Text {
         bytes: [0u8; TEXT_SIZE],
@@ -26,7 +26,7 @@ pub fn blank() -> Text
 
 // The byte b, and then the text.
 pub fn byte_before(t: Text, b: u8) -> Text
-    requires { ⌜ (0 < t .from) × (t .from ≤ 64) ⌝ }
+    requires { ⌜ (0 < t .from) × (t .from ≤ textSize) ⌝ }
     ensures { λ r. ⌜ (textOf r ≡ b ∷ textOf t) × (r .from + 1 ≡ t .from) ⌝ }
 {
     let mut bytes = t.bytes;
@@ -37,7 +37,7 @@ pub fn byte_before(t: Text, b: u8) -> Text
 
 // n in decimal, and then the text.
 pub fn decimal_before(t: Text, n: u64) -> Text
-    requires { ⌜ (20 ≤ t .from) × (t .from ≤ 64) ⌝ }
+    requires { ⌜ (20 ≤ t .from) × (t .from ≤ textSize) ⌝ }
     ensures { λ r. ⌜ (textOf r ≡ decimal n ++ textOf t) × (t .from ≤ r .from + 20) × (r .from < t .from) ⌝ }
 {
     let mut bytes = t.bytes;
@@ -61,7 +61,7 @@ fn digit(x: u64) -> u8
 
 // The line of a call.
 pub fn line(n: u64, row: u64, size: u64) -> Text
-    ensures { λ r. ⌜ (textOf r ≡ printed n row size) × (r .from ≤ 64) ⌝ }
+    ensures { λ r. ⌜ (textOf r ≡ printed n row size) × (r .from ≤ textSize) ⌝ }
 {
     let a = byte_before(blank(), b'\n');
     let b = byte_before(decimal_before(a, size), b' ');
@@ -71,7 +71,7 @@ pub fn line(n: u64, row: u64, size: u64) -> Text
 
 // A last line: a word of three letters and a number.
 pub fn last(x: u8, y: u8, z: u8, n: u64) -> Text
-    ensures { λ r. ⌜ (textOf r ≡ x ∷ y ∷ z ∷ 32 ∷ (decimal n ++ (10 ∷ []))) × (r .from ≤ 64) ⌝ }
+    ensures { λ r. ⌜ (textOf r ≡ x ∷ y ∷ z ∷ 32 ∷ (decimal n ++ (10 ∷ []))) × (r .from ≤ textSize) ⌝ }
 {
     let a = decimal_before(byte_before(blank(), b'\n'), n);
     let b = byte_before(a, b' ');
@@ -82,7 +82,7 @@ pub fn last(x: u8, y: u8, z: u8, n: u64) -> Text
 // Writes the text into space from place `at` on, and returns the place after it; where it does not fit, nothing is
 // written and `at` is returned.
 pub fn put(space: &mut [u8], at: usize, t: Text) -> usize
-    requires { ⌜ t .from ≤ 64 ⌝ }
+    requires { ⌜ t .from ≤ textSize ⌝ }
     ensures { λ r. ⌜ TextPut (now (space .entry)) at (textOf t) r (now (space .exit)) ⌝ }
 {
     let bytes = t.bytes;

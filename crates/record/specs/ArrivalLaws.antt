@@ -40,26 +40,20 @@ malformed-broken s h = go (or-cases (leb clockStart (length s) && otherMark s) (
   where
     go : ((leb clockStart (length s) && otherMark s) ≡ true) ⊎ ((leb recordHead (length s) && overlong s) ≡ true)
         → (noHead s || otherMark s || overlong s || noFrame s) ≡ true
-    go (inl e) =
-        or-intro-l (noHead s || otherMark s || overlong s) (noFrame s)
-        (or-intro-l (noHead s || otherMark s) (overlong s)
-        (or-intro-r (noHead s) (otherMark s) (and-r (leb clockStart (length s)) (otherMark s) e)))
-    go (inr e) =
-        or-intro-l (noHead s || otherMark s || overlong s) (noFrame s)
-        (or-intro-r (noHead s || otherMark s) (overlong s) (and-r (leb recordHead (length s)) (overlong s) e))
+    go (inl e) = search (or-intro-l, or-intro-r, and-r (leb clockStart (length s)) (otherMark s) e)
+    go (inr e) = search (or-intro-l, or-intro-r, and-r (leb recordHead (length s)) (overlong s) e)
 
 pub head-short : (s : List ℕ) → length s < recordHead → broken s ≡ true
 unfolding broken
-head-short s h =
-    or-intro-l (noHead s || otherMark s || overlong s) (noFrame s)
-    (or-intro-l (noHead s || otherMark s) (overlong s) (or-intro-l (noHead s) (otherMark s) (lt-ltb (length s) recordHead h)))
+head-short s h = search (or-intro-l, or-intro-r, lt-ltb (length s) recordHead h)
 
 pub frame-short : (s : List ℕ) → length s < recordHead + frameLength s → broken s ≡ true
 unfolding broken
-frame-short s h = or-intro-r (noHead s || otherMark s || overlong s) (noFrame s) (lt-ltb (length s) (recordHead + frameLength s) h)
+frame-short s h = search (or-intro-l, or-intro-r, lt-ltb (length s) (recordHead + frameLength s) h)
 
 -- and what makes it whole
-pub not-malformed : (s : List ℕ) → malformed s ≡ false → recordHead ≤ length s → (otherMark s ≡ false) × (overlong s ≡ false)
+pub not-malformed : (s : List ℕ) → malformed s ≡ false → recordHead ≤ length s
+    → (otherMark s ≡ false) × (overlong s ≡ false)
 not-malformed s w h = (
   and-rest-false (leb clockStart (length s)) (otherMark s) (le-leb clockStart (length s) (omega arith))
       (or-l (leb clockStart (length s) && otherMark s) (leb recordHead (length s) && overlong s) w),
@@ -101,15 +95,12 @@ pub whole-facts : (s : List ℕ) → broken s ≡ false → IsWhole s (callIn s 
 unfolding broken
 whole-facts s e = record {
   whole = e;
-  mark = eqb-true (numberAt s 0 2) recordMagic (not-false (eqb (numberAt s 0 2) recordMagic)
-      (or-r (noHead s) (otherMark s)
-      (or-l (noHead s || otherMark s) (overlong s) (or-l (noHead s || otherMark s || overlong s) (noFrame s) e))));
+  mark = eqb-true (numberAt s 0 2) recordMagic (not-false (eqb (numberAt s 0 2) recordMagic) (search (or-l, or-r, e)));
   reading = refl;
   counted = refl;
   frame = refl;
-  most = ltb-false 65_536 (frameLength s)
-      (or-r (noHead s || otherMark s) (overlong s) (or-l (noHead s || otherMark s || overlong s) (noFrame s) e));
-  fits = ltb-false (length s) (recordHead + frameLength s) (or-r (noHead s || otherMark s || overlong s) (noFrame s) e);
+  most = ltb-false 65_536 (frameLength s) (search (or-l, or-r, e));
+  fits = ltb-false (length s) (recordHead + frameLength s) (search (or-l, or-r, e));
 }
 
 pub facts-of-whole : (s : List ℕ) (clock size : ℕ) → factsOf (Whole clock size) ≡ recordFacts s → IsWhole s clock size

@@ -1,17 +1,18 @@
 -- The gate's two answers, for any drive whatever: it grants exactly where no row applies (`exact`), and what a
 -- refusal leaves (`demand1`).
 use mathlib.Core.Path.{_∙_, _≡_, ap, refl, subst, sym}
-use mathlib.Core.Logic.{_⊎_, inl, inr}
+use mathlib.Core.Logic.{inl, inr}
 use mathlib.Core.Bool.{Bool, cond, false, true}
 use mathlib.Core.List.{[], _++_, List}
 use Prim.Native.Nat.{ℕ}
+use native.Mathlib.Decide.{ℕ-discrete}
 use native.Mathlib.Omega.{arith}
 use lib.Dec.{leb}
-use borrow.Author.Tests.{eq-eqb, eqb-false, eqb-true, ne-eqb}
+use borrow.Author.Tests.{eq-eqb, ne-eqb}
 use Rattle.lemmas.specs.ListLaws.{nth-map}
 use Rattle.lemmas.specs.Lists.{every, keep}
 use Rattle.lemmas.specs.RowTable.{clear-zero, firstRow, line, numbered, Row, row-below, row-isnt, row-next, zero-clear}
-use Rattle.lemmas.specs.Tests.{_is_, bool-cases}
+use Rattle.lemmas.specs.Tests.{_is_}
 use Rattle.rules.specs.Demands.{Demand1, Exact, MarkAndOutlived}
 use Rattle.rules.specs.Drive.{Drive, lives, newHighWater, refresh}
 use Rattle.rules.specs.Frame.{fields}
@@ -39,13 +40,11 @@ module _ (d : Drive) (m : List ℕ) (c : Call) where
   -- the row returned is the first that applies
   pub gate-row : gate d m c .row ≡ firstRow table
   unfolding granted
-  gate-row = go (bool-cases (firstRow table is 0))
+  gate-row = go (ℕ-discrete (firstRow table) 0)
     where
-      go : (firstRow table is 0 ≡ true) ⊎ (firstRow table is 0 ≡ false) → gate d m c .row ≡ firstRow table
-      go (inl k) =
-          let e : firstRow table ≡ 0 = eqb-true (firstRow table) 0 k in
-          ap Answer.row (gate-granted e) ∙ sym e
-      go (inr k) = ap Answer.row (gate-refused (eqb-false (firstRow table) 0 k))
+      go : Dec (firstRow table ≡ 0) → gate d m c .row ≡ firstRow table
+      go (yes e) = ap Answer.row (gate-granted e) ∙ sym e
+      go (no e) = ap Answer.row (gate-refused e)
 
   numbers : numbered table ≡ true
   unfolding rows frameRows driveRows scopeRows every

@@ -174,30 +174,6 @@ module _ {f : List ℕ} {s : Scope Object} {space : List ℕ} (g : Clear f s spa
   unfolding driveRows scopeRows applies
   clear12 = by-drive 12
 
-  clear14 : row14 s (x .cred) ≡ false
-  unfolding driveRows scopeRows applies
-  clear14 = by-drive 14
-
-  clear15 : row15 s (x .cred) (x .req) ≡ false
-  unfolding driveRows scopeRows applies
-  clear15 = by-drive 15
-
-  clear17 : row17 s (x .cred) (x .req) ≡ false
-  unfolding driveRows scopeRows applies
-  clear17 = by-drive 17
-
-  clear18 : row18 s (x .req) ≡ false
-  unfolding driveRows scopeRows applies
-  clear18 = by-drive 18
-
-  clear19 : row19 s (x .req) ≡ false
-  unfolding driveRows scopeRows applies
-  clear19 = by-drive 19
-
-  clear20 : row20 s (x .req) ≡ false
-  unfolding driveRows scopeRows applies
-  clear20 = by-drive 20
-
   pub clear21 : row21 s (x .req) ≡ false
   unfolding driveRows scopeRows applies
   clear21 = by-drive 21
@@ -238,43 +214,39 @@ module _ {f : List ℕ} {s : Scope Object} {space : List ℕ} (g : Clear f s spa
         ltb-false 7 (x .req .operation) (none-of (requestFaults (x .req)) h 1),
       )
 
-  -- the operation is k
-  abbrev Is : ℕ → Type 0
-  Is k = (x .req .operation is k) ≡ true
-
   -- an object, not 0, is there, and operations 1 to 6 name its version
   pub exists : (x .cred .object ≡ 0 → ⊥) → missing (namedObject s (x .cred)) ≡ false
-  unfolding row14
+  unfolding driveRows scopeRows applies row14
   exists h = and-rest-false (x .cred .object isnt 0) (missing (namedObject s (x .cred)))
-      (ap not (ne-eqb (x .cred .object) 0 h)) clear14
+      (ap not (ne-eqb (x .cred .object) 0 h)) (by-drive 14)
 
   pub version-is : x .req .operation ≤ 6 → x .cred .version ≡ presentVersion s (x .cred)
-  unfolding row15
+  unfolding driveRows scopeRows applies row15
   version-is h = eqb-true (x .cred .version) (presentVersion s (x .cred))
       (not-false (x .cred .version is presentVersion s (x .cred))
       (and-rest-false (x .req .operation under 7) (x .cred .version isnt presentVersion s (x .cred))
-      (lt-ltb (x .req .operation) 7 (omega arith)) clear15))
+      (lt-ltb (x .req .operation) 7 (omega arith)) (by-drive 15)))
 
   -- what is read, written or deleted is an object
-  whole : (x .req .operation is 1 || x .req .operation is 2 || x .req .operation is 6) ≡ true
+  names-object : (x .req .operation is 1 || x .req .operation is 2 || x .req .operation is 6) ≡ true
       → x .cred .object ≡ 0 → ⊥
-  whole h = eqb-false (x .cred .object) 0
+  names-object h = eqb-false (x .cred .object) 0
       (and-rest-false (x .req .operation is 1 || x .req .operation is 2 || x .req .operation is 6)
       (x .cred .object is 0) h (none-of (misfits (x .cred) (x .req)) clear6 2))
 
   pub deletes-object : operationOf x ≡ Delete → x .cred .object ≡ 0 → ⊥
-  deletes-object o = whole (rw (asks-for (x .req) Delete o) refl)
+  deletes-object o = names-object (rw (asks-for (x .req) Delete o) refl)
 
   -- an object that a frame for reading or writing names is there, and the bytes are inside it
   pub there : isTransfer (x .req) ≡ true → missing (namedObject s (x .cred)) ≡ false
-  there h = exists (whole (or-intro-l (x .req .operation is 1 || x .req .operation is 2)
+  there h = exists (names-object (or-intro-l (x .req .operation is 1 || x .req .operation is 2)
       (x .req .operation is 6) h))
 
   pub in-object : isTransfer (x .req) ≡ true → x .req .A + x .req .B ≤ objectOf s (x .cred) .size
-  unfolding row17
+  unfolding driveRows scopeRows applies row17
   in-object h =
       ltb-false (objectOf s (x .cred) .size) (x .req .A + x .req .B)
-      (and-rest-false (isTransfer (x .req)) (x .req .A + x .req .B over objectOf s (x .cred) .size) h clear17)
+      (and-rest-false (isTransfer (x .req)) (x .req .A + x .req .B over objectOf s (x .cred) .size) h (by-drive 17))
 
   -- reads and writes move bytes
   pub read-moves : {a b : ℕ} → operationOf x ≡ Read a b → isTransfer (x .req) ≡ true
@@ -307,30 +279,30 @@ module _ {f : List ℕ} {s : Scope Object} {space : List ℕ} (g : Clear f s spa
 
   pub number-free : (a b : ℕ) → operationOf x ≡ Create a b
       → missing (find Object.number a (s .partition .objects)) ≡ true
-  unfolding row18
+  unfolding driveRows scopeRows applies row18
   number-free a b o =
       let k = asks-for (x .req) (Create a b) o in
       subst (λ (n : ℕ). missing (find Object.number n (s .partition .objects)) ≡ true) (k .1)
       (not-false (missing (find Object.number (x .req .A) (s .partition .objects)))
       (and-rest-false (x .req .operation is 5)
       (not (missing (find Object.number (x .req .A) (s .partition .objects))))
-      (eq-eqb (x .req .operation) 5 (k .0)) clear18))
+      (eq-eqb (x .req .operation) 5 (k .0)) (by-drive 18)))
 
   can-create : SoundScope s → (a b : ℕ) → operationOf x ≡ Create a b → CanCreate s a b
-  unfolding placement placementStart row19 row20
+  unfolding driveRows scopeRows applies placement placementStart row19 row20
   can-create h a b o =
       let k = asks-for (x .req) (Create a b) o in
-      let is5 : Is 5 = eq-eqb (x .req .operation) 5 (k .0) in
+      let is5 : (x .req .operation is 5) ≡ true = eq-eqb (x .req .operation) 5 (k .0) in
       let h6 : (x .req .A is 0 || x .req .B is 0) ≡ false =
       and-rest-false (x .req .operation is 5) (x .req .A is 0 || x .req .B is 0) is5
       (none-of (misfits (x .cred) (x .req)) clear6 5) in
       let a0 : x .req .A ≡ 0 → ⊥ = eqb-false (x .req .A) 0 (or-l (x .req .A is 0) (x .req .B is 0) h6) in
       let b0 : x .req .B ≡ 0 → ⊥ = eqb-false (x .req .B) 0 (or-r (x .req .A is 0) (x .req .B is 0) h6) in
       let full : length here ≡ 16 → ⊥ = eqb-false (length here) 16
-      (and-rest-false (x .req .operation is 5) (length here is 16) is5 clear19) in
+      (and-rest-false (x .req .operation is 5) (length here is 16) is5 (by-drive 19)) in
       let fit : missing (bestFit extentStep (s .quarter) here b) ≡ false =
       subst (λ (n : ℕ). missing (bestFit extentStep (s .quarter) here n) ≡ false) (k .2)
-      (and-rest-false (x .req .operation is 5) (missing (bestFit extentStep (s .quarter) here (x .req .B))) is5 clear20) in
+      (and-rest-false (x .req .operation is 5) (missing (bestFit extentStep (s .quarter) here (x .req .B))) is5 (by-drive 20)) in
       record {
         number-one = omega (arith, k .1);
         size-one = omega (arith, k .2);

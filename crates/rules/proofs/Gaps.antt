@@ -4,10 +4,11 @@ use mathlib.Core.Logic.{_⊎_, inl, inr, _↔_}
 use mathlib.Core.Bool.{Bool, true, false, _||_, cond}
 use mathlib.Core.List.{List, [], _∷_, map, List·Memᴰ, List·Memᴰ·head, List·Memᴰ·tail, Memᴰ·map, Memᴰ·of-map}
 use Prim.Native.Nat.{ℕ, _+_, _-_, _≤_, _<_, min}
+use native.Mathlib.Decide.{decLe, decLt}
 use native.Mathlib.Omega.{arith, both-ways}
 use lib.Dec.{leb}
-use borrow.Author.Tests.{ltb-true, ltb-false, leb-true, leb-false, lt-ltb, le-leb}
-use Rattle.lemmas.specs.Tests.{_under_, and-l, and-r, both, or-l, or-r, or-cases, bool-cases}
+use borrow.Author.Tests.{ltb-true, leb-true, lt-ltb, le-leb}
+use Rattle.lemmas.specs.Tests.{_under_, and-l, and-r, both, or-cases, or-intro-l, or-intro-r}
 use Rattle.lemmas.specs.Lists.{keep}
 use Rattle.lemmas.specs.ListLaws.{every-member, every-of, member-keep, keep-passes, keep-member}
 use Rattle.rules.specs.declared.Object.{Object}
@@ -47,14 +48,14 @@ Found q objects i n = (n ≡ q) ⊎ ((a : Object) × List·Memᴰ a objects × (
 nearer-is : (i end : ℕ) (a : Object) → (nearer i end a ≡ end) ⊎ ((i ≤ a .start) × (nearer i end a ≡ a .start))
 nearer-is i end a = go (leb i (a .start)) refl
   where
-    least : i ≤ a .start → (leb (a .start) end ≡ true) ⊎ (leb (a .start) end ≡ false)
+    least : i ≤ a .start → Dec (a .start ≤ end)
         → (min (a .start) end ≡ end) ⊎ ((i ≤ a .start) × (min (a .start) end ≡ a .start))
-    least h (inl e) = inr (h, omega (arith, leb-true (a .start) end e))
-    least h (inr e) = inl (omega (arith, leb-false (a .start) end e))
+    least h (yes e) = inr (h, omega arith)
+    least h (no e) = inl (omega arith)
 
     go : (b : Bool) → leb i (a .start) ≡ b → (cond b (min (a .start) end) end ≡ end)
         ⊎ ((i ≤ a .start) × (cond b (min (a .start) end) end ≡ a .start))
-    go true h = least (leb-true i (a .start) h) (bool-cases (leb (a .start) end))
+    go true h = least (leb-true i (a .start) h) (decLe (a .start) end)
     go false h = inl refl
 
 next-is : (q : ℕ) (objects : List Object) (i : ℕ) → Found q objects i (next q objects i)
@@ -87,20 +88,13 @@ module _ (q : ℕ) (objects : List Object) (sized : (a : Object) → List·Mem�
   free-of : (i : ℕ) → (Taken objects i → ⊥) → free objects i ≡ true
   unfolding free
   free-of i h = every-of (λ (a : Object). i under a .start || leb (a .start + a .size) i) objects
-      (λ a k. go a k (bool-cases (i under a .start || leb (a .start + a .size) i)))
+      (λ a k. go a k (decLt i (a .start)) (decLe (a .start + a .size) i))
     where
-      go : (a : Object) → List·Memᴰ a objects → ((i under a .start || leb (a .start + a .size) i) ≡ true)
-          ⊎ ((i under a .start || leb (a .start + a .size) i) ≡ false)
+      go : (a : Object) → List·Memᴰ a objects → Dec (i < a .start) → Dec (a .start + a .size ≤ i)
           → (i under a .start || leb (a .start + a .size) i) ≡ true
-      go a k (inl e) = e
-      go a k (inr e) =
-          absurd (h (
-            a,
-            k,
-            ltb-false i (a .start) (or-l (i under a .start) (leb (a .start + a .size) i) e),
-            leb-false
-                (a .start + a .size) i (or-r (i under a .start) (leb (a .start + a .size) i) e),
-          ))
+      go a k (yes e) f = or-intro-l (i under a .start) (leb (a .start + a .size) i) (lt-ltb i (a .start) e)
+      go a k (no e) (yes f) = or-intro-r (i under a .start) (leb (a .start + a .size) i) (le-leb (a .start + a .size) i f)
+      go a k (no e) (no f) = absurd (h (a, k, omega arith, omega arith))
 
   -- a start that passes, and what runs from there
   is-gap : (i : ℕ) → (i ≡ 0) ⊎ List·Memᴰ i (ends objects) → free objects i ≡ true → i < next q objects i
@@ -156,29 +150,21 @@ module _ (q : ℕ) (objects : List Object) (sized : (a : Object) → List·Mem�
       -- the gap ends where the next extent starts
       upper : Found q objects (g .from) (next q objects (g .from)) → g .to ≤ next q objects (g .from)
       upper (inl e) = omega (arith, h .inside)
-      upper (inr r) = go (bool-cases (leb (g .to) (r .0 .start)))
+      upper (inr r) = go (decLe (g .to) (r .0 .start))
         where
-          go : (leb (g .to) (r .0 .start) ≡ true) ⊎ (leb (g .to) (r .0 .start) ≡ false)
-              → g .to ≤ next q objects (g .from)
-          go (inl e) = omega (arith, leb-true (g .to) (r .0 .start) e, r .3)
-          go (inr e) =
-              absurd (open-at (r .0 .start) (r .2) (leb-false (g .to) (r .0 .start) e) (r .0) (r .1) (omega arith)
+          go : Dec (g .to ≤ r .0 .start) → g .to ≤ next q objects (g .from)
+          go (yes e) = omega (arith, e, r .3)
+          go (no e) =
+              absurd (open-at (r .0 .start) (r .2) (omega arith) (r .0) (r .1) (omega arith)
               (omega (arith, sized (r .0) (r .1))))
 
       lower : (g .to ≡ q) ⊎ Taken objects (g .to) → next q objects (g .from) ≤ g .to
       lower (inl e) = omega (arith, next-le q objects (g .from))
-      lower (inr t) = go (bool-cases (leb (g .from) (t .0 .start)))
+      lower (inr t) = go (decLe (g .from) (t .0 .start))
         where
-          go : (leb (g .from) (t .0 .start) ≡ true) ⊎ (leb (g .from) (t .0 .start) ≡ false)
-              → next q objects (g .from) ≤ g .to
-          go (inl e) = omega (
-            arith,
-            next-start q objects (g .from) (t .0) (t .1)
-                (leb-true (g .from) (t .0 .start) e),
-            t .2,
-          )
-          go (inr e) =
-              let l : t .0 .start < g .from = leb-false (g .from) (t .0 .start) e in
+          go : Dec (g .from ≤ t .0 .start) → next q objects (g .from) ≤ g .to
+          go (yes e) = omega (arith, next-start q objects (g .from) (t .0) (t .1) e, t .2)
+          go (no e) =
               absurd (open-at (g .from) (omega arith) (h .run) (t .0) (t .1) (omega arith)
               (omega (arith, t .3, h .run)))
 

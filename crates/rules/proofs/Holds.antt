@@ -10,15 +10,15 @@ use native.Mathlib.Decide.{decLt, ℕ-discrete}
 use native.Mathlib.Nat.{add-assoc, mul-le-mul-right}
 use native.Mathlib.Omega.{arith}
 use lib.Dec.{leb}
-use lib.ListN.{getD, length, length-replicate, replicate}
+use lib.ListN.{length, length-replicate, replicate}
 use borrow.Author.Tests.{leb-true}
-use Rattle.lemmas.specs.ListLaws.{every-member, length-update, member-change, member-keep, nth-update, nth-update-other, pairs-members, pairs-unmap}
-use Rattle.lemmas.specs.Lists.{change, missing, part, splice, update}
+use Rattle.lemmas.specs.ListLaws.{every-member, length-update, member-change, member-keep, pairs-members, pairs-unmap}
+use Rattle.lemmas.specs.Lists.{change, missing, part, splice}
 use Rattle.lemmas.specs.Parts.{length-splice, part-apart, part-inside, part-new}
 use Rattle.lemmas.specs.Tests.{_is_, _isnt_, or-cases}
 use Rattle.rules.specs.declared.Entry.{Entry}
 use Rattle.rules.specs.declared.Object.{Object}
-use Rattle.rules.specs.Drive.{apart, Keys, Partition, partitionAt, quarter, soundPartition, emptyPartition}
+use Rattle.rules.specs.Drive.{apart, Keys, Partition, partitionAt, quarter, soundPartition}
 use Rattle.rules.specs.declared.Operation.{Operation}
 use Rattle.rules.specs.declared.Operation.the-variants.{Create, Delete, Look, Raise, Read, SetKey, Write}
 use Rattle.rules.specs.Frame.{Fields}
@@ -42,6 +42,8 @@ use Rattle.rules.proofs.Sound.{
   SoundPartition,
   SoundScope,
   SoundTables,
+  with-scope-here,
+  with-scope-there,
 }
 
 -- ---- what is known of a grant
@@ -129,16 +131,13 @@ module _ {M : ℕ} {m : List ℕ} {l : Ledger} (g : Consistent M m l) where
       p : ℕ
       p = x .cred .partition
 
-      new : Partition LedgerObject → Partition LedgerObject
-      new old = s .partition
-
       go : Dec (r ≡ p) → Held M m′ r h
       go (yes e) =
           rw e (here h (subst (λ (s : Partition LedgerObject). List·Memᴰ h (s .objects))
-          (nth-update p new (l .partitions) (emptyPartition 0) (omega (arith, g .four)))
-          (subst (λ (n : ℕ). List·Memᴰ h (getD (update p new (l .partitions)) n (emptyPartition 0) .objects)) e k)))
+          (with-scope-here (x .cred) s l (omega (arith, hp, g .four)))
+          (subst (λ (n : ℕ). List·Memᴰ h (partitionAt (withScope (x .cred) s l) n .objects)) e k)))
       go (no e) = there r h e (subst (λ (s : Partition LedgerObject). List·Memᴰ h (s .objects))
-          (nth-update-other p r new (l .partitions) (emptyPartition 0) e) k)
+          (with-scope-there (x .cred) s l r e) k)
 
   still : (p : ℕ) (r : ℕ) (h : LedgerObject) → (r ≡ p → ⊥) → In r h → Held M m r h
   still p r h e k = g .bytes r h k

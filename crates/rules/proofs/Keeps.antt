@@ -1,14 +1,13 @@
 -- The gate leaves a sound drive sound, whatever the drive, the medium and the call (`gate-sound`).
 use mathlib.Core.Path.{_≡_, subst, sym}
-use mathlib.Core.Logic.{_⊎_, inl, inr}
 use mathlib.Core.Bool.{Bool, cond, false, true}
 use mathlib.Core.List.{List}
 use Prim.Native.Nat.{ℕ}
+use native.Mathlib.Decide.{ℕ-discrete}
 use lib.Dec.{leb}
-use borrow.Author.Tests.{eqb-false, eqb-true}
 use Rattle.lemmas.specs.Lists.{every}
 use Rattle.lemmas.specs.RowTable.{firstRow, Row}
-use Rattle.lemmas.specs.Tests.{_is_, and-l, and-r, bool-cases, both}
+use Rattle.lemmas.specs.Tests.{_is_, and-l, and-r, both}
 use Rattle.rules.specs.declared.Object.{Object}
 use Rattle.rules.specs.Drive.{Drive, largestMedium, newHighWater, quarter, refresh, sound}
 use Rattle.rules.specs.Frame.{Fields, fields, operationOf}
@@ -71,12 +70,9 @@ module _ (d : Drive) (m : List ℕ) (c : Call) (h : sound d ≡ true) where
 
   pub gate-sound : sound (gate d m c .drive) ≡ true
   unfolding granted
-  gate-sound = go (bool-cases (firstRow table is 0))
+  gate-sound = go (ℕ-discrete (firstRow table) 0)
     where
-      go : (firstRow table is 0 ≡ true) ⊎ (firstRow table is 0 ≡ false) → sound (gate d m c .drive) ≡ true
-      go (inl k) =
-          let e : firstRow table ≡ 0 = eqb-true (firstRow table) 0 k in
-          subst (λ (a : Answer Drive). sound (a .drive) ≡ true) (sym (gate-granted d m c e)) (granted-sound e)
-      go (inr k) =
-          subst (λ (a : Answer Drive). sound (a .drive) ≡ true)
-          (sym (gate-refused d m c (eqb-false (firstRow table) 0 k))) (left-sound (firstRow table is 1))
+      go : Dec (firstRow table ≡ 0) → sound (gate d m c .drive) ≡ true
+      go (yes e) = subst (λ (a : Answer Drive). sound (a .drive) ≡ true) (sym (gate-granted d m c e)) (granted-sound e)
+      go (no e) = subst (λ (a : Answer Drive). sound (a .drive) ≡ true) (sym (gate-refused d m c e))
+          (left-sound (firstRow table is 1))

@@ -8,10 +8,10 @@ use Prim.Native.Nat.{_+_, _<_, _≤_, ℕ}
 use native.Mathlib.Decide.{decLt, ℕ-discrete}
 use native.Mathlib.Omega.{arith}
 use lib.ListN.{getD, length}
-use borrow.Author.Tests.{eqb-false, eqb-true, ltb-false}
+use borrow.Author.Tests.{ltb-false}
 use Rattle.lemmas.specs.ListLaws.{nth-map, nth-update, nth-update-other, some-keep}
 use Rattle.lemmas.specs.Lists.{keep, some?, update}
-use Rattle.lemmas.specs.Tests.{_is_, _under_, bool-cases, or-l}
+use Rattle.lemmas.specs.Tests.{_is_, _under_, or-l}
 use Rattle.rules.specs.declared.Entry.{Entry}
 use Rattle.rules.specs.declared.Object.{Object}
 use Rattle.rules.specs.Demands.{answer, callOperation, Nonce, nonce, State, step}
@@ -76,16 +76,15 @@ module _ {M : ℕ} {s : State} {l : Ledger} (v : Invariant M s l) (c : Call) whe
   -- every call leaves a known nonce known
   pub step-known : (n : Nonce) → Known n (s .drive) → Known n (step s c .drive)
   unfolding granted
-  step-known n k = go (bool-cases (rowOf s c is 0))
+  step-known n k = go (ℕ-discrete (rowOf s c) 0)
     where
-      go : (rowOf s c is 0 ≡ true) ⊎ (rowOf s c is 0 ≡ false) → Known n (step s c .drive)
-      go (inl b) =
-          let e : rowOf s c ≡ 0 = eqb-true (rowOf s c) 0 b in
+      go : Dec (rowOf s c ≡ 0) → Known n (step s c .drive)
+      go (yes e) =
           subst (λ (t : State). Known n (t .drive)) (sym (step-granted v c e))
           (known-granted n x (fresh s c) (perform (callOperation c) (driveScope (fresh s c) (x .cred)) x (s .medium) .scope) (in-memory e)
           (known-refreshed n (s .drive) (c .clock) k))
-      go (inr b) =
-          subst (λ (t : State). Known n (t .drive)) (sym (step-refused v c (eqb-false (rowOf s c) 0 b)))
+      go (no e) =
+          subst (λ (t : State). Known n (t .drive)) (sym (step-refused v c e))
           (known-refreshed n (s .drive) (c .clock) k)
 
   -- a granted one becomes known

@@ -1,23 +1,28 @@
 -- The theorems over document 01's definitions: demand 1 (`Answers`), demand 2 (`RoundTrip`, `RepliesBack`), demand 3
 -- (`Demand`), the placing rule (`Placing`), the customer's story (`OneLog`). The other files lead to these.
 pub mod Answers
+-- the placing rule
 pub mod Gaps
 pub mod Placing
+-- soundness, and what is known of a frame that no row refuses
 pub mod Sound
-pub mod Bare
-pub mod Holds
 pub mod Clear
 pub mod Memories
 pub mod Keeps
+pub mod Edges
+-- the ledger, one call, and every list of calls
+pub mod Bare
+pub mod Holds
 pub mod Step
 pub mod Known
 pub mod Shown
 pub mod Demand
+-- versions and logs
 pub mod Finds
 pub mod Renewal
 pub mod Passed
-pub mod Edges
 pub mod Versions
 pub mod OneLog
+-- frames and replies
 pub mod RoundTrip
 pub mod RepliesBack

@@ -18,13 +18,14 @@ use Rattle.rules.specs.Drive.{Partition, partitionAt}
 use Rattle.rules.specs.declared.Operation.the-variants.{Raise, Write}
 use Rattle.rules.specs.Frame.{Fields, operationOf}
 use Rattle.rules.specs.Gate.{Call}
-use Rattle.rules.specs.Ledger.{clocked, Fed, feed, LedgerObject, Ledger, numberOf}
+use Rattle.rules.specs.Ledger.{clocked, Fed, feed, LedgerObject, Ledger, ledgerPerform, ledgerScope, numberOf}
 use Rattle.rules.specs.Operations.{namedObject, objectOf, presentVersion}
 use Rattle.rules.specs.Scope.{Scope, driveScope}
 use Rattle.rules.specs.Story.{fedFields, versionIn, versionOf}
 use Rattle.rules.proofs.Bare.{missing-is, sees, the-ledger-object, the-object}
 use Rattle.rules.proofs.Clear.{asks-for, Clear, deletes-object, exists, number-free, version-is}
-use Rattle.rules.proofs.Renewal.{CanRenew, partitionAfter, partition-here, partition-there}
+use Rattle.rules.proofs.Renewal.{CanRenew, partitionAfter}
+use Rattle.rules.proofs.Sound.{with-scope-here, with-scope-there}
 use Rattle.rules.proofs.Step.{clear-of, entries, fresh, Invariant, rowOf, sees-is, the-grant}
 
 pub record Passed (l : Ledger) (x : Fields) : Type 0 where
@@ -119,10 +120,12 @@ affected-or-not M l c p four ok = go (ℕ-discrete (c .row) 0) (ℕ-discrete p (
     go (yes r) (yes e) = inl (record {
       granted = r;
       partition = sym e;
-      effect = rw (eq-eqb (c .row) 0 r, e) (partition-here M x (clocked (c .clock) l) (operationOf x)
+      effect = rw (eq-eqb (c .row) 0 r, e) (with-scope-here (x .cred)
+          (ledgerPerform (operationOf x) (ledgerScope M (clocked (c .clock) l) (x .cred)) x) (clocked (c .clock) l)
           (omega (arith, ok r .partition, four)));
     })
     go (yes r) (no e) = inr (record {
-      same = rw (eq-eqb (c .row) 0 r) (partition-there M x (clocked (c .clock) l) (operationOf x) p e);
+      same = rw (eq-eqb (c .row) 0 r) (with-scope-there (x .cred)
+          (ledgerPerform (operationOf x) (ledgerScope M (clocked (c .clock) l) (x .cred)) x) (clocked (c .clock) l) p e);
       away = λ z k. e (sym k);
     })

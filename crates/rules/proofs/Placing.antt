@@ -8,9 +8,10 @@ use mathlib.Core.Option.{Option, none, some, Option·map, Option·getD}
 use mathlib.Core.List.{List, [], _∷_, List·Memᴰ, List·Memᴰ·head, List·Memᴰ·tail}
 use Prim.Native.Nat.{ℕ, _+_, _-_, _*_, _/_, _%_, _≤_, _<_}
 use native.Mathlib.Nat.{mod-lt, div-add-mod', div-lt-iff-lt-mul, mul-le-mul-right}
+use native.Mathlib.Decide.{decLe}
 use native.Mathlib.Omega.{arith}
 use lib.Dec.{leb}
-use borrow.Author.Tests.{ltb-true, ltb-false, leb-true, leb-false, eqb-true, eqb-false, le-leb}
+use borrow.Author.Tests.{ltb-true, ltb-false, leb-true, eqb-true, eqb-false, le-leb}
 use Rattle.lemmas.specs.Tests.{_under_, _is_, and-l, and-r, or-l, or-r, or-cases, or-intro-l, or-intro-r, bool-cases}
 use Rattle.lemmas.specs.Lists.{every, keep, missing}
 use Rattle.lemmas.specs.ListLaws.{every-of, member-keep, keep-passes, keep-member}
@@ -204,32 +205,27 @@ module _ (step q : ℕ) (objects : List Object) (B : ℕ) (one : 1 ≤ step)
   chosen-placed : (s : ℕ) → Chosen step q objects B s → Placed q objects B s
   chosen-placed s c = record {
     inside = omega (arith, c .fits, c .start, c .is-gap .inside);
-    clear = every-of (clearOf s B) objects (λ a k. go a k (bool-cases (leb (a .start + a .size) s))
-        (bool-cases (leb (s + B) (a .start))));
+    clear = every-of (clearOf s B) objects (λ a k. go a k (decLe (a .start + a .size) s) (decLe (s + B) (a .start)));
   }
     where
       -- the first byte that both would have
       meet : (a : Object) → List·Memᴰ a objects → s < a .start + a .size → a .start < s + B
-          → (b : Bool) → leb s (a .start) ≡ b → ⊥
-      meet a k h l true e =
-          let le : s ≤ a .start = leb-true s (a .start) e in
+          → Dec (s ≤ a .start) → ⊥
+      meet a k h l (yes e) =
           c .is-gap .free (a .start) (omega (arith, spot-in step (c .gap) one, c .start))
           (omega (arith, c .fits, c .start))
           (a, k, omega arith, omega (arith, sized a k))
-      meet a k h l false e =
-          let lt : a .start < s = leb-false s (a .start) e in
+      meet a k h l (no e) =
           c .is-gap .free s (omega (arith, spot-in step (c .gap) one, c .start)) (omega (arith, c .fits, c .start))
           (a, k, omega arith, h)
 
-      go : (a : Object) → List·Memᴰ a objects
-          → (leb (a .start + a .size) s ≡ true) ⊎ (leb (a .start + a .size) s ≡ false)
-          → (leb (s + B) (a .start) ≡ true) ⊎ (leb (s + B) (a .start) ≡ false)
+      go : (a : Object) → List·Memᴰ a objects → Dec (a .start + a .size ≤ s) → Dec (s + B ≤ a .start)
           → clearOf s B a ≡ true
-      go a k (inl e) f = or-intro-l (leb (a .start + a .size) s) (leb (s + B) (a .start)) e
-      go a k (inr e) (inl f) = or-intro-r (leb (a .start + a .size) s) (leb (s + B) (a .start)) f
-      go a k (inr e) (inr f) =
-          absurd (meet a k (leb-false (a .start + a .size) s e) (leb-false (s + B) (a .start) f)
-          (leb s (a .start)) refl)
+      go a k (yes e) f =
+          or-intro-l (leb (a .start + a .size) s) (leb (s + B) (a .start)) (le-leb (a .start + a .size) s e)
+      go a k (no e) (yes f) =
+          or-intro-r (leb (a .start + a .size) s) (leb (s + B) (a .start)) (le-leb (s + B) (a .start) f)
+      go a k (no e) (no f) = absurd (meet a k (omega arith) (omega arith) (decLe s (a .start)))
 
   pub placed : missing (bestFit step q objects B) ≡ false
       → Placed q objects B (Option·getD (bestFit step q objects B) 0)

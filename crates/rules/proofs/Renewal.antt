@@ -5,15 +5,14 @@ use mathlib.Core.Logic.{_⊎_, inl, inr}
 use mathlib.Core.Bool.{Bool, cond, false, true, true≢false}
 use mathlib.Core.Option.{map-map, none, Option, Option·getD, Option·map, Option·some-injective, Option·some-ne-none, some}
 use mathlib.Core.List.{[], List}
-use Prim.Native.Nat.{_+_, _<_, _≤_, ℕ}
+use Prim.Native.Nat.{_+_, _≤_, ℕ}
 use native.Mathlib.Decide.{ℕ-discrete}
 use native.Mathlib.Omega.{arith}
-use lib.ListN.{length, replicate}
+use lib.ListN.{replicate}
 use borrow.Author.Tests.{eqb-true, ne-eqb}
-use Rattle.lemmas.specs.ListLaws.{nth-update, nth-update-other}
 use Rattle.lemmas.specs.Lists.{change, find, missing, splice}
 use Rattle.lemmas.specs.Tests.{_is_}
-use Rattle.rules.specs.Drive.{Partition, partitionAt, emptyPartition}
+use Rattle.rules.specs.Drive.{Partition}
 use Rattle.rules.specs.declared.Operation.{Operation}
 use Rattle.rules.specs.declared.Operation.the-variants.{Create, Delete, Look, Raise, Read, SetKey, Write}
 use Rattle.rules.specs.Frame.{Fields}
@@ -32,7 +31,7 @@ use Rattle.rules.specs.Ledger.{
   withBytesWritten,
 }
 use Rattle.rules.specs.Operations.{placementStart}
-use Rattle.rules.specs.Scope.{withScope, withPartition}
+use Rattle.rules.specs.Scope.{withPartition}
 use Rattle.rules.specs.Story.{Giving, Renewing, versionIn}
 use Rattle.rules.proofs.Finds.{
   find-change,
@@ -43,21 +42,9 @@ use Rattle.rules.proofs.Finds.{
   find-kept,
 }
 
--- ---- the partition p that the frame names changes so; the others keep their values
+-- ---- what becomes of the partition p that the frame names
 abbrev pub partitionAfter : Operation → ℕ → Fields → Ledger → Partition LedgerObject → Partition LedgerObject
 partitionAfter o M x l p = ledgerPerform o (withPartition p (ledgerScope M l (x .cred))) x .partition
-
-module _ (M : ℕ) (x : Fields) (l : Ledger) (o : Operation) where
-  pub partition-here : x .cred .partition < length (l .partitions)
-      → partitionAt (withScope (x .cred) (ledgerPerform o (ledgerScope M l (x .cred)) x) l) (x .cred .partition)
-      ≡ partitionAfter o M x l (partitionAt l (x .cred .partition))
-  partition-here h = nth-update (x .cred .partition)
-      (λ (old : Partition LedgerObject). ledgerPerform o (ledgerScope M l (x .cred)) x .partition) (l .partitions) (emptyPartition 0) h
-
-  pub partition-there : (r : ℕ) → (r ≡ x .cred .partition → ⊥)
-      → partitionAt (withScope (x .cred) (ledgerPerform o (ledgerScope M l (x .cred)) x) l) r ≡ partitionAt l r
-  partition-there r e = nth-update-other (x .cred .partition) r
-      (λ (old : Partition LedgerObject). ledgerPerform o (ledgerScope M l (x .cred)) x .partition) (l .partitions) (emptyPartition 0) e
 
 -- ---- raise, delete, create: the object's version afterwards
 abbrev versionHeld : LedgerObject → ℕ

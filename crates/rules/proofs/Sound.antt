@@ -20,6 +20,8 @@ use Rattle.lemmas.specs.ListLaws.{
   every-one,
   every-update,
   length-keep,
+  nth-update,
+  nth-update-other,
   pairs-append-one,
   pairs-keep,
   pairs-map,
@@ -27,6 +29,7 @@ use Rattle.lemmas.specs.ListLaws.{
 }
 use Rattle.lemmas.specs.Lists.{change, every, pairs}
 use Rattle.lemmas.specs.Tests.{_is_, _isnt_, and-l, and-r, both, or-cases}
+use Rattle.rules.specs.declared.Credential.{Credential}
 use Rattle.rules.specs.declared.Object.{Object}
 use Rattle.rules.specs.Drive.{
   apart,
@@ -110,16 +113,6 @@ members-disjoint {q} {p} {a} {b} s i j ne = go (pairs-members apart (p .objects)
     go (inl e) = absurd (ne (ap Object.number e))
     go (inr (inl e)) = apart-disjoint a b e
     go (inr (inr e)) = swap (apart-disjoint b a e)
-
--- only four partitions have objects
-pub below-four : {A : Type 0} (t : Tables A) (p : ℕ) (a : A) → length (t .partitions) ≡ 4
-    → List·Memᴰ a (partitionAt t p .objects) → p < 4
-below-four {A} t p a e k = go (decLt p 4)
-  where
-    go : Dec (p < 4) → p < 4
-    go (yes h) = h
-    go (no h) = absurd (List·Memᴰ·not-nil (subst (λ (r : Partition A). List·Memᴰ a (r .objects))
-        (List·getD-eq-default (t .partitions) (emptyPartition 0) {n = p} (omega (arith, e))) k))
 
 partition-sound : (q : ℕ) (p : Partition Object) → SoundPartition q p → soundPartition q p ≡ true
 unfolding soundPartition
@@ -255,3 +248,23 @@ pub back-sound : (q : ℕ) (x : Fields) (s : Scope Object) (t : Tables Object) �
 back-sound q x s t k h =
     every-update (soundPartition q) (x .cred .partition) (λ (old : Partition Object). s .partition) (t .partitions)
     (emptyPartition 0) k h
+
+-- ---- the list of partitions: only four have objects; one of them is put back
+pub below-four : {A : Type 0} (t : Tables A) (p : ℕ) (a : A) → length (t .partitions) ≡ 4
+    → List·Memᴰ a (partitionAt t p .objects) → p < 4
+below-four {A} t p a e k = go (decLt p 4)
+  where
+    go : Dec (p < 4) → p < 4
+    go (yes h) = h
+    go (no h) = absurd (List·Memᴰ·not-nil (subst (λ (r : Partition A). List·Memᴰ a (r .objects))
+        (List·getD-eq-default (t .partitions) (emptyPartition 0) {n = p} (omega (arith, e))) k))
+
+pub with-scope-here : {A : Type 0} (c : Credential) (s : Scope A) (t : Tables A) → c .partition < length (t .partitions)
+    → partitionAt (withScope c s t) (c .partition) ≡ s .partition
+with-scope-here {A} c s t h =
+    nth-update (c .partition) (λ (old : Partition A). s .partition) (t .partitions) (emptyPartition 0) h
+
+pub with-scope-there : {A : Type 0} (c : Credential) (s : Scope A) (t : Tables A) (r : ℕ) → (r ≡ c .partition → ⊥)
+    → partitionAt (withScope c s t) r ≡ partitionAt t r
+with-scope-there {A} c s t r e =
+    nth-update-other (c .partition) r (λ (old : Partition A). s .partition) (t .partitions) (emptyPartition 0) e

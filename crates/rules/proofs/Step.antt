@@ -1,16 +1,16 @@
 -- One call: the gate's two answers, and the invariant of drive, medium and ledger that every call keeps (`step-inv`).
 use mathlib.Core.Path.{_∙_, _≡_, ap, refl, subst, subst₂, sym}
-use mathlib.Core.Logic.{_⊎_, inl, inr}
 use mathlib.Core.Bool.{false, true}
 use mathlib.Core.List.{List}
 use Prim.Native.Nat.{_≤_, ℕ}
+use native.Mathlib.Decide.{ℕ-discrete}
 use native.Mathlib.Omega.{arith}
 use lib.ListN.{length, length-map}
-use borrow.Author.Tests.{eq-eqb, eqb-false, eqb-true, le-leb, ne-eqb}
+use borrow.Author.Tests.{eq-eqb, le-leb, ne-eqb}
 use Rattle.lemmas.specs.ListLaws.{length-update}
 use Rattle.lemmas.specs.Lists.{every, keep}
 use Rattle.lemmas.specs.RowTable.{firstRow}
-use Rattle.lemmas.specs.Tests.{_is_, bool-cases, both}
+use Rattle.lemmas.specs.Tests.{_is_, both}
 use Rattle.rules.specs.declared.Entry.{Entry}
 use Rattle.rules.specs.declared.Object.{Object}
 use Rattle.rules.specs.Demands.{answer, callOperation, State, step}
@@ -187,12 +187,8 @@ module _ {M : ℕ} {s : State} {l : Ledger} (v : Invariant M s l) (c : Call) whe
   feed-refused e = rw (ne-eqb (answer s c .row) 0 (λ k. e (row-zero k))) refl
 
   pub step-inv : Invariant M (step s c) (feed M l (fedOf s c))
-  step-inv = go (bool-cases (rowOf s c is 0))
+  step-inv = go (ℕ-discrete (rowOf s c) 0)
     where
-      go : (rowOf s c is 0 ≡ true) ⊎ (rowOf s c is 0 ≡ false) → Invariant M (step s c) (feed M l (fedOf s c))
-      go (inl k) =
-          let e : rowOf s c ≡ 0 = eqb-true (rowOf s c) 0 k in
-          subst₂ (Invariant M) (sym (step-granted e)) (sym (feed-granted e)) (granted-inv e)
-      go (inr k) =
-          let e : rowOf s c ≡ 0 → ⊥ = eqb-false (rowOf s c) 0 k in
-          subst₂ (Invariant M) (sym (step-refused e)) (sym (feed-refused e)) fresh-inv
+      go : Dec (rowOf s c ≡ 0) → Invariant M (step s c) (feed M l (fedOf s c))
+      go (yes e) = subst₂ (Invariant M) (sym (step-granted e)) (sym (feed-granted e)) (granted-inv e)
+      go (no e) = subst₂ (Invariant M) (sym (step-refused e)) (sym (feed-refused e)) fresh-inv

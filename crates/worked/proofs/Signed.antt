@@ -98,21 +98,21 @@ unfolding gate gateWith rows frameRows driveRows scopeRows
 gate-with b d m c e = ap (λ (b : Bool). gateWith b d m c) e
 
 -- ---- lists of calls whose digests are known to be right or wrong
-pub data Move : Type 0 where
+pub data TestCall : Type 0 where
   -- a call that rows 1 to 8 refuse, so that its digest is never looked at
-  raw : Call → Move
+  raw : Call → TestCall
   -- key of the slot, credential, request, data, clock reading, size of the reply space
-  signed : List ℕ → Credential → Request → List ℕ → ℕ → ℕ → Move
-  altered : List ℕ → Credential → Request → List ℕ → ℕ → ℕ → Move
+  signed : List ℕ → Credential → Request → List ℕ → ℕ → ℕ → TestCall
+  altered : List ℕ → Credential → Request → List ℕ → ℕ → ℕ → TestCall
 
-unfoldable pub callOf : Move → Call
+unfoldable pub callOf : TestCall → Call
 callOf (raw c) = c
 callOf (signed key c r payload clock room) = record
     { frame = frame key c r payload; clock = clock; space = replicate room 9 }
 callOf (altered key c r payload clock room) = record
     { frame = forged key c r payload; clock = clock; space = replicate room 9 }
 
-unfoldable pub answerWith : State → Move → Answer Drive
+unfoldable pub answerWith : State → TestCall → Answer Drive
 answerWith s (raw c) = gate (s .drive) (s .medium) c
 answerWith s (signed key c r payload clock room) =
     gateWith false (s .drive) (s .medium) (callOf (signed key c r payload clock room))
@@ -120,14 +120,14 @@ answerWith s (altered key c r payload clock room) =
     gateWith true (s .drive) (s .medium) (callOf (altered key c r payload clock room))
 
 -- the digest is right where it is said to be, and wrong where it is said to be
-unfoldable pub Known9 : State → Move → Type 0
+unfoldable pub Known9 : State → TestCall → Type 0
 Known9 s (raw c) = Unit {0}
 Known9 s (signed key c r payload clock room) = row9
     (driveScope (refresh clock (s .drive)) (fields (frame key c r payload) .cred)) (fields (frame key c r payload)) ≡ false
 Known9 s (altered key c r payload clock room) = row9
     (driveScope (refresh clock (s .drive)) (fields (forged key c r payload) .cred)) (fields (forged key c r payload)) ≡ true
 
-pub answer-with : (s : State) (v : Move) → Known9 s v → answer s (callOf v) ≡ answerWith s v
+pub answer-with : (s : State) (v : TestCall) → Known9 s v → answer s (callOf v) ≡ answerWith s v
 unfolding answer answerWith Known9 callOf
 answer-with s (raw c) k = refl
 answer-with s (signed key c r payload clock room) k =
@@ -138,9 +138,14 @@ answer-with s (altered key c r payload clock room) k =
 abbrev pub leaves : Answer Drive → State
 leaves a = record { drive = a .drive; medium = a .medium }
 
-unfoldable pub AllKnown9 : State → List Move → Type 0
+unfoldable pub AllKnown9 : State → List TestCall → Type 0
 AllKnown9 s [] = Unit {0}
 AllKnown9 s (v ∷ vs) = Known9 s v × AllKnown9 (leaves (answerWith s v)) vs
+
+-- what is known of a list's first call, and of the others
+infixr 30 _then_
+pub _then_ : {A B : Type 0} → A → B → A × B
+a then b = (a, b)
 
 -- what the gate says to a list of calls: of each row and length, and of a grant the first sixteen bytes of the reply
 abbrev shows : Answer Drive → List ℕ
@@ -150,11 +155,11 @@ unfoldable pub said : State → List Call → List (List ℕ)
 said s [] = []
 said s (c ∷ cs) = shows (answer s c) ∷ said (step s c) cs
 
-unfoldable pub saidWith : State → List Move → List (List ℕ)
+unfoldable pub saidWith : State → List TestCall → List (List ℕ)
 saidWith s [] = []
 saidWith s (v ∷ vs) = shows (answerWith s v) ∷ saidWith (leaves (answerWith s v)) vs
 
-pub said-with : (s : State) (vs : List Move) → AllKnown9 s vs → said s (map callOf vs) ≡ saidWith s vs
+pub said-with : (s : State) (vs : List TestCall) → AllKnown9 s vs → said s (map callOf vs) ≡ saidWith s vs
 unfolding said saidWith AllKnown9 step
 said-with s [] k = refl
 said-with s (v ∷ vs) k =
@@ -176,21 +181,21 @@ fail key c r payload = wrong-fails (rightDigest key c r payload)
     (length-hmac (hmac key (credentialBytes c)) (covered (r .level) (credentialBytes c) (requestBytes r) payload))
 
 -- ---- longer lists
-unfoldable pub run : State → List Move → State
+unfoldable pub run : State → List TestCall → State
 run s [] = s
 run s (v ∷ vs) = run (leaves (answerWith s v)) vs
 
-pub known-append : (s : State) (vs ws : List Move) → AllKnown9 s vs → AllKnown9 (run s vs) ws → AllKnown9 s (vs ++ ws)
+pub known-append : (s : State) (vs ws : List TestCall) → AllKnown9 s vs → AllKnown9 (run s vs) ws → AllKnown9 s (vs ++ ws)
 unfolding AllKnown9 run
 known-append s [] ws k l = l
 known-append s (v ∷ vs) ws k l = (k .0, known-append (leaves (answerWith s v)) vs ws (k .1) l)
 
 -- n calls, the number that each is made from going down
-unfoldable pub times : ℕ → (ℕ → Move) → List Move
+unfoldable pub times : ℕ → (ℕ → TestCall) → List TestCall
 times zero f = []
 times (suc n) f = f n ∷ times n f
 
-pub known-times : (n : ℕ) (f : ℕ → Move) (Has : State → Type 0)
+pub known-times : (n : ℕ) (f : ℕ → TestCall) (Has : State → Type 0)
     → ((k : ℕ) (s : State) → Has s → Known9 s (f k))
     → ((k : ℕ) (s : State) → Has s → Has (leaves (answerWith s (f k))))
     → (s : State) → Has s → AllKnown9 s (times n f)

@@ -30,7 +30,7 @@ use Rattle.worked.proofs.Signed.{
   known-times,
   Known9,
   leaves,
-  Move,
+  TestCall,
   opened,
   pass,
   raw,
@@ -40,6 +40,7 @@ use Rattle.worked.proofs.Signed.{
   said-with,
   signed,
   spread,
+  _then_,
   times,
 }
 
@@ -102,11 +103,11 @@ begin =
     record { drive = f .drive; medium = f .medium }
 
 -- a frame whose digest is never looked at, at a clock reading
-junk : ℕ → List ℕ → Move
+junk : ℕ → List ℕ → TestCall
 junk clock f = raw (record { frame = f; clock = clock; space = replicate 64 9 })
 
 -- a frame under working key 0, at clock 100 with 64 bytes for the reply
-put : Credential → Request → List ℕ → Move
+put : Credential → Request → List ℕ → TestCall
 put c r payload = signed workingKey c r payload 100 64
 
 -- the partition key is set by the drive key, the working key by the partition key
@@ -116,7 +117,7 @@ setPartition = by 3 0 0 64 1 0 0
 setWorking : Credential
 setWorking = by 2 0 0 64 1 0 0
 
-first : List Move
+first : List TestCall
 first =
     junk 0 []
     ∷ junk 0 (replicate 96 0)
@@ -155,88 +156,35 @@ firstFrames = 0
 
 first-known : AllKnown9 begin first
 unfolding firstFrames
-first-known = (
-  tt,
-  (
-    tt,
-    (
-      tt,
-      (
-        tt,
-        (
-          tt,
-          (
-            tt,
-            (
-              tt,
-              (
-                fail driveKey setPartition setsKey seed,
-                (
-                  pass driveKey setPartition setsKey seed,
-                  (
-                    pass driveKey setPartition setsKey seed,
-                    (
-                      pass partitionKey setWorking setsKey seed,
-                      (
-                        pass workingKey (by 0 0 1 16 0 0 0) (ask 5 0 2 5 10 0) [],
-                        (
-                          pass workingKey (by 0 0 1 16 0 0 0) (ask 5 0 3 5 1 0) [],
-                          (
-                            pass workingKey (by 0 0 1 16 0 0 0) (ask 5 0 3 6 55 0) [],
-                            (
-                              pass workingKey (by 0 5 2 2 0 0 10) (ask 2 0 4 3 4 4) (1 ∷ 2 ∷ 3 ∷ 4 ∷ []),
-                              (
-                                pass workingKey (by 0 5 2 1 0 0 10) (ask 1 0 5 2 6 0) [],
-                                (
-                                  pass workingKey (by 0 5 1 1 0 0 10) (ask 1 0 6 2 6 0) [],
-                                  (
-                                    pass workingKey (by 0 5 2 2 0 0 10) (ask 1 0 6 2 6 0) [],
-                                    (
-                                      pass workingKey (by 0 6 2 1 0 0 10) (ask 1 0 6 2 6 0) [],
-                                      (
-                                        pass workingKey (by 0 5 2 1 0 0 10) (ask 1 0 6 8 4 0) [],
-                                        (
-                                          pass workingKey (by 0 5 2 1 0 0 12) (ask 1 0 6 8 4 0) [],
-                                          (
-                                            pass workingKey (by 0 5 2 8 0 0 0) (ask 4 0 7 0 0 0) [],
-                                            (
-                                              pass workingKey (by 0 5 3 4 2 0 0) (ask 3 2 8 0 0 0) [],
-                                              (
-                                                pass workingKey (by 0 5 3 1 0 0 10) (ask 1 0 9 2 6 0) [],
-                                                (
-                                                  pass workingKey (by 0 5 3 32 0 0 0) (ask 6 0 9 0 0 0) [],
-                                                  (
-                                                    pass workingKey (by 0 0 1 16 0 0 0) (ask 5 0 10 5 10 0) [],
-                                                    (
-                                                      pass workingKey (by 0 5 4 1 0 0 10) (ask 1 0 11 2 6 0) [],
-                                                      tt,
-                                                    ),
-                                                  ),
-                                                ),
-                                              ),
-                                            ),
-                                          ),
-                                        ),
-                                      ),
-                                    ),
-                                  ),
-                                ),
-                              ),
-                            ),
-                          ),
-                        ),
-                      ),
-                    ),
-                  ),
-                ),
-              ),
-            ),
-          ),
-        ),
-      ),
-    ),
-  ),
-)
+first-known =
+    tt
+    then tt
+    then tt
+    then tt
+    then tt
+    then tt
+    then tt
+    then fail driveKey setPartition setsKey seed
+    then pass driveKey setPartition setsKey seed
+    then pass driveKey setPartition setsKey seed
+    then pass partitionKey setWorking setsKey seed
+    then pass workingKey (by 0 0 1 16 0 0 0) (ask 5 0 2 5 10 0) []
+    then pass workingKey (by 0 0 1 16 0 0 0) (ask 5 0 3 5 1 0) []
+    then pass workingKey (by 0 0 1 16 0 0 0) (ask 5 0 3 6 55 0) []
+    then pass workingKey (by 0 5 2 2 0 0 10) (ask 2 0 4 3 4 4) (1 ∷ 2 ∷ 3 ∷ 4 ∷ [])
+    then pass workingKey (by 0 5 2 1 0 0 10) (ask 1 0 5 2 6 0) []
+    then pass workingKey (by 0 5 1 1 0 0 10) (ask 1 0 6 2 6 0) []
+    then pass workingKey (by 0 5 2 2 0 0 10) (ask 1 0 6 2 6 0) []
+    then pass workingKey (by 0 6 2 1 0 0 10) (ask 1 0 6 2 6 0) []
+    then pass workingKey (by 0 5 2 1 0 0 10) (ask 1 0 6 8 4 0) []
+    then pass workingKey (by 0 5 2 1 0 0 12) (ask 1 0 6 8 4 0) []
+    then pass workingKey (by 0 5 2 8 0 0 0) (ask 4 0 7 0 0 0) []
+    then pass workingKey (by 0 5 3 4 2 0 0) (ask 3 2 8 0 0 0) []
+    then pass workingKey (by 0 5 3 1 0 0 10) (ask 1 0 9 2 6 0) []
+    then pass workingKey (by 0 5 3 32 0 0 0) (ask 6 0 9 0 0 0) []
+    then pass workingKey (by 0 0 1 16 0 0 0) (ask 5 0 10 5 10 0) []
+    then pass workingKey (by 0 5 4 1 0 0 10) (ask 1 0 11 2 6 0) []
+    then tt
 
 -- row, length and the reply of each
 worked : said begin (map callOf first)
@@ -271,33 +219,32 @@ worked : said begin (map callOf first)
 unfolding firstFrames
 worked = said-with begin first first-known
 
--- ---- a partition and a memory filled to the brim: 16 objects, then row 19; 64 entries, then row 22 while T + 5,000
--- is at least the
--- mark; room again once the mark has outlived them, and rows 11 and 10
+-- ---- a partition and a memory filled to the brim: 16 objects, then row 19; 64 entries, then row 22 while T + 5,000 is
+-- at least the mark; room again once the mark has outlived them, and rows 11 and 10
 -- rights, operation, count, A and B, on object 0
-fill : ℕ → ℕ → ℕ → ℕ → ℕ → Move
+fill : ℕ → ℕ → ℕ → ℕ → ℕ → TestCall
 fill rights operation count A B = put (by 0 0 1 rights 0 0 0) (ask operation 0 count A B 0) []
 
-creates : ℕ → Move
+creates : ℕ → TestCall
 creates k = fill 16 5 (20 + k) (20 + k) 1
 
-looks : ℕ → Move
+looks : ℕ → TestCall
 looks k = fill 4 3 (100 + k) 0 0
 
 -- a look at time T and a clock reading
 looksAt : ℕ → Request
 looksAt T = record { magic = requestMagic; operation = 3; level = 0; time = T; count = 99; A = 0; B = 0; n = 0 }
 
-lookAt : ℕ → ℕ → Move
+lookAt : ℕ → ℕ → TestCall
 lookAt T clock = signed workingKey (by 0 0 1 4 0 0 0) (looksAt T) [] clock 64
 
-crowded : List Move
+crowded : List TestCall
 crowded = creates 70 ∷ []
 
-last : List Move
+last : List TestCall
 last = lookAt 100 100 ∷ lookAt 100 5100 ∷ lookAt 5101 5101 ∷ lookAt 100 5101 ∷ lookAt 5101 9001 ∷ []
 
-filling : List Move
+filling : List TestCall
 filling = times 15 creates ++ (crowded ++ (times 40 looks ++ last))
 
 unfoldable allFrames : ℕ
@@ -333,6 +280,10 @@ looks-keep k s e =
     ap (λ (ks : Keys). keyIn ks 0 0) (keys-with false (s .drive) (s .medium) (callOf (looks k))
     refl) ∙ e
 
+looks-known : (T : ℕ) → not (same (spread 32 (rightDigest workingKey (by 0 0 1 4 0 0 0) (looksAt T) []))
+    (rightDigest workingKey (by 0 0 1 4 0 0 0) (looksAt T) [])) ≡ false
+looks-known T = pass workingKey (by 0 0 1 4 0 0 0) (looksAt T) []
+
 all-known : AllKnown9 begin (first ++ filling)
 unfolding allFrames
 all-known =
@@ -345,20 +296,7 @@ all-known =
     (known-append (run (run (run begin first) (times 15 creates)) crowded) (times 40 looks) last
     (known-times 40 looks HasKey (λ k s e. fill-known 4 3 (100 + k) 0 0 s e) looks-keep
     (run (run (run begin first) (times 15 creates)) crowded) refl) (
-      pass workingKey (by 0 0 1 4 0 0 0) (looksAt 100) [],
-      (
-        pass workingKey (by 0 0 1 4 0 0 0) (looksAt 100) [],
-        (
-          pass workingKey (by 0 0 1 4 0 0 0) (looksAt 5101) [],
-          (
-            pass workingKey (by 0 0 1 4 0 0 0) (looksAt 100) [],
-            (
-              pass workingKey (by 0 0 1 4 0 0 0) (looksAt 5101) [],
-              tt,
-            ),
-          ),
-        ),
-      ),
+    looks-known 100 then looks-known 100 then looks-known 5101 then looks-known 100 then looks-known 5101 then tt
     ))))
 
 filled : map (λ (l : List ℕ). getD l 0 0) (drop 27 (said begin (map callOf (first ++ filling))))
@@ -373,7 +311,7 @@ spent =
     let f = format (replicate 64 5) 4_294_967_295 masterKey driveKey in
     record { drive = f .drive; medium = f .medium }
 
-newest : List Move
+newest : List TestCall
 newest =
     signed driveKey setPartition setsKey seed 100 64
     ∷ signed partitionKey setWorking setsKey seed 100 64
@@ -385,19 +323,14 @@ no-version : map (λ (l : List ℕ). getD l 0 0) (said spent (map callOf newest)
 unfolding spent newest firstFrames
 no-version =
     ap (λ (a : List (List ℕ)). map (λ (l : List ℕ). getD l 0 0) a)
-    (said-with spent newest (
-      pass driveKey setPartition setsKey seed,
-      (
-        pass partitionKey setWorking setsKey seed,
-        (
-          pass workingKey (by 0 0 4_294_967_295 16 0 0 0) (ask 5 0 2 5 1 0) [],
-          (pass workingKey (by 0 0 4_294_967_295 8 0 0 0) (ask 4 0 2 0 0 0) [], tt),
-        ),
-      ),
-    ))
+    (said-with spent newest
+    (pass driveKey setPartition setsKey seed
+    then pass partitionKey setWorking setsKey seed
+    then pass workingKey (by 0 0 4_294_967_295 16 0 0 0) (ask 5 0 2 5 1 0) []
+    then pass workingKey (by 0 0 4_294_967_295 8 0 0 0) (ask 4 0 2 0 0 0) []
+    then tt))
 
--- ---- row 1: a medium that is too short, and a record that is not sound; the drive comes back unchanged, its mark
--- too
+-- ---- row 1: a medium that is too short, and a record that is not sound; the drive comes back unchanged, with its mark
 empty : ℕ → Call
 empty clock = record { frame = []; clock = clock; space = [] }
 
@@ -413,8 +346,8 @@ unsound : gate large (replicate 256 0) (empty 7) ≡ refused 1 large (replicate 
 unfolding large empty firstFrames
 unsound = refl
 
--- ---- the document's example of the program: an empty frame and then 96 zero bytes, clocks 0, print 1 2 0, 2 3 0,
--- end 2
+-- ---- the document's example of the program: an empty frame and then 96 zero bytes, clocks 0, print `1 2 0`, `2 3 0`,
+-- `end 2`
 example : program (0x4c ∷ 0x49 ∷ (replicate 12 0 ++ (0x4c ∷ 0x49 ∷ (replicate 11 0 ++ (96 ∷ replicate 96 0)))))
     ≡ 49 ∷ 32 ∷ 50 ∷ 32 ∷ 48 ∷ 10 ∷ 50 ∷ 32 ∷ 51 ∷ 32 ∷ 48 ∷ 10 ∷ 101 ∷ 110 ∷ 100 ∷ 32 ∷ 50 ∷ 10 ∷ []
 unfolding program prints broken digits opened
