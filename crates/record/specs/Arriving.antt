@@ -13,7 +13,17 @@ use borrow.Author.Tests.{lt-ltb, le-ltb, le-leb, ltb-false, eqb-true, not-true, 
 use Rattle.lemmas.specs.Tests.{_under_, and-r, and-rest-false, or-l, or-r, or-cases, or-intro-l, or-intro-r}
 use Rattle.lemmas.specs.Lists.{part}
 use Rattle.lemmas.specs.BigEndian.{numberAt}
-use Rattle.rules.specs.Program.{broken, callIn, clockStart, frameLength, otherMark, overlong, recordHead, recordMagic}
+use Rattle.rules.specs.Program.{
+  broken,
+  callIn,
+  clockStart,
+  frameLength,
+  mostFrame,
+  otherMark,
+  overlong,
+  recordHead,
+  recordMagic,
+}
 use Rattle.record.specs.declared.Arrived.the-variants.{Whole, Broken, Short}
 use Rattle.record.specs.Arrival.{wrong, RecordFacts, factsOf, recordFacts}
 
@@ -56,7 +66,9 @@ head-short s h =
 
 pub frame-short : (s : List ℕ) → length s < recordHead + frameLength s → broken s ≡ true
 unfolding broken
-frame-short s h = or-intro-r (few s || otherMark s || overlong s) (lacks s) (lt-ltb (length s) (recordHead + frameLength s) h)
+frame-short s h =
+    or-intro-r (few s || otherMark s || overlong s) (lacks s)
+    (lt-ltb (length s) (recordHead + frameLength s) h)
 
 -- and what makes it whole
 pub not-wrong : (s : List ℕ) → wrong s ≡ false → recordHead ≤ length s → (otherMark s ≡ false) × (overlong s ≡ false)
@@ -94,7 +106,7 @@ pub record IsWhole (s : List ℕ) (clock size : ℕ) : Type 0 where
   pub reading : clock ≡ callIn s .clock
   pub counted : size ≡ frameLength s
   pub frame : part s recordHead size ≡ callIn s .frame
-  pub most : size ≤ 65_536
+  pub most : size ≤ mostFrame
   pub fits : recordHead + size ≤ length s
 
 pub whole-facts : (s : List ℕ) → broken s ≡ false → IsWhole s (callIn s .clock) (frameLength s)
@@ -107,7 +119,7 @@ whole-facts s e = record {
   reading = refl;
   counted = refl;
   frame = refl;
-  most = ltb-false 65_536 (frameLength s)
+  most = ltb-false mostFrame (frameLength s)
       (or-r (few s || otherMark s) (overlong s) (or-l (few s || otherMark s || overlong s) (lacks s) e));
   fits = ltb-false (length s) (recordHead + frameLength s) (or-r (few s || otherMark s || overlong s) (lacks s) e);
 }
@@ -126,7 +138,7 @@ facts-of-broken s e = sym (ap RecordFacts.hopeless e)
 
 -- one of which more must be read is shorter than the longest
 pub facts-of-short : (s : List ℕ) → factsOf Short ≡ recordFacts s
-    → (broken s ≡ true) × (wrong s ≡ false) × (length s < recordHead + 65_536)
+    → (broken s ≡ true) × (wrong s ≡ false) × (length s < recordHead + mostFrame)
 unfolding recordFacts
 facts-of-short s e =
     let b : broken s ≡ true = not-false (broken s) (sym (ap RecordFacts.whole e)) in
@@ -134,9 +146,9 @@ facts-of-short s e =
     (b, w, go b w (decLt (length s) recordHead) (decLt (length s) (recordHead + frameLength s)))
   where
     go : broken s ≡ true → wrong s ≡ false → Dec (length s < recordHead) → Dec (length s < recordHead + frameLength s)
-        → length s < recordHead + 65_536
+        → length s < recordHead + mostFrame
     go b w (yes h) l = omega arith
     go b w (no h) (yes l) =
         let n = not-wrong s w (omega arith) in
-        omega (arith, l, ltb-false 65_536 (frameLength s) (n .1))
+        omega (arith, l, ltb-false mostFrame (frameLength s) (n .1))
     go b w (no h) (no l) = absurd (true≢false (sym b ∙ all-there s w (omega arith) (omega arith)))
