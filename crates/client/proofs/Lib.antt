@@ -1,2 +1,3 @@
--- Demand 2 over the code's own contracts.
+-- Demand 2 over the code's contracts, and laws for the proofs of the code.
 pub mod RoundTrip
+mod ClientLaws

@@ -1,4 +1,2 @@
--- What issuer and builder promise, and what their rows say of lengths alone.
+-- What the issuer and the builder promise.
 pub mod Met
-pub mod ClientRows
-pub mod ClientLaws

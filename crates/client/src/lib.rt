@@ -1,5 +1,4 @@
 // The client end of document 01: issuer, frame builder and reply check. The reply check is the crate `reply_check`'s.
-ghost use mathlib.Core.Path.{_≡_};
 ghost use Rattle.client.specs.Met.{IssueMet, BuildMet};
 use digest::mac;
 pub use reply_check::check;

@@ -1,28 +1,29 @@
 // The rows of the issuer and the builder, 26, 28 and 29, and the parts of a frame put together.
 ghost use mathlib.Core.Path.{_≡_};
-ghost use mathlib.Core.List.{_++_};
-ghost use Prim.Native.Nat.{_+_, _≤_};
+ghost use mathlib.Core.List.{List, _++_};
+ghost use Prim.Native.Nat.{ℕ, _+_, _≤_};
 ghost use lib.ListN.{length};
 ghost use Rattle.lemmas.specs.Lists.{splice};
+ghost use Rattle.lemmas.specs.RowTable.{firstRow};
 ghost use Rattle.digest.specs.Hmac.{hmac};
+ghost use Rattle.rules.specs.Client.{buildRows, issueRows};
 ghost use Rattle.rules.specs.Frame.{covered, credentialSize, requestSize};
 ghost use Rattle.rules.specs.Rows.{leastFrame};
-ghost use Rattle.client.specs.ClientRows.{issueRow, buildRow};
 use digest::mac;
 use lemmas::pick;
 
-// The issuer's row.
+// The issuer's row, of a key and a space of those lengths.
 pub fn issue_row(c: rules::Credential, key: usize, space: usize) -> u32
-    ensures { λ row. ⌜ row ≡ issueRow c key space ⌝ }
+    ensures { λ row. ⌜ ((k s : List ℕ) → length k ≡ key → length s ≡ space → row ≡ firstRow (issueRows c k s)) ⌝ }
 {
     let row = pick(space < fields::CREDENTIAL_SIZE, 29, 0);
     let row = pick(record_rows::bad_credential(c), 28, row);
     pick(key != fields::KEY_SIZE, 26, row)
 }
 
-// The builder's row.
+// The builder's row, of n bytes of data, a key and a space of those lengths.
 pub fn build_row(credential: &[u8], request: &[u8], n: usize, key: usize, space: usize) -> u32
-    ensures { λ row. ⌜ row ≡ buildRow (now (credential .entry)) (now (request .entry)) n key space ⌝ }
+    ensures { λ row. ⌜ ((p k s : List ℕ) → length p ≡ n → length k ≡ key → length s ≡ space → row ≡ firstRow (buildRows (now (credential .entry)) (now (request .entry)) p k s)) ⌝ }
 {
     let r = fields::request_in(request, 0);
     let row = pick(!octets::fits(space, fields::LEAST_FRAME, n), 29, 0);

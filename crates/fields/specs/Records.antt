@@ -11,7 +11,16 @@ use Rattle.lemmas.specs.BigEndian.{layoutSize, readAll}
 use Rattle.octets.specs.Fields.{fieldsRead}
 use Rattle.rules.specs.declared.Credential.{Credential}
 use Rattle.rules.specs.declared.Request.{Request}
-use Rattle.rules.specs.Frame.{credentialAt, credentialOf, credentialSize, credentialWidths, requestAt, requestOf, requestSize, requestWidths}
+use Rattle.rules.specs.Frame.{
+  credentialAt,
+  credentialOf,
+  credentialSize,
+  credentialWidths,
+  requestAt,
+  requestOf,
+  requestSize,
+  requestWidths,
+}
 
 -- the one at place i; all zeros where it is not all there
 abbrev pub credentialIn : List ℕ → ℕ → Credential
@@ -26,11 +35,14 @@ either f true v w = refl
 either f false v w = refl
 
 pub credential-read : (s : List ℕ) (i : ℕ)
-    → credentialOf (fieldsRead s i credentialWidths (replicate 12 0)) ≡ credentialIn s i
+    → credentialOf (fieldsRead s i credentialWidths (replicate (length credentialWidths) 0)) ≡ credentialIn s i
 unfolding credentialAt every layoutSize
 credential-read s i =
-    either credentialOf (leb (i + credentialSize) (length s)) (readAll s i credentialWidths) (replicate 12 0)
+    either credentialOf (leb (i + credentialSize) (length s)) (readAll s i credentialWidths)
+    (replicate (length credentialWidths) 0)
 
-pub request-read : (s : List ℕ) (i : ℕ) → requestOf (fieldsRead s i requestWidths (replicate 8 0)) ≡ requestIn s i
+pub request-read : (s : List ℕ) (i : ℕ)
+    → requestOf (fieldsRead s i requestWidths (replicate (length requestWidths) 0)) ≡ requestIn s i
 unfolding requestAt every layoutSize
-request-read s i = either requestOf (leb (i + requestSize) (length s)) (readAll s i requestWidths) (replicate 8 0)
+request-read s i =
+    either requestOf (leb (i + requestSize) (length s)) (readAll s i requestWidths) (replicate (length requestWidths) 0)

@@ -1,4 +1,4 @@
--- Document 01, "Multi-byte fields are unsigned and big-endian": fields one after the other in a lent slice, whatever its
+-- Document 01, "Multi-byte fields are unsigned and big-endian": fields one after the other in a lent slice, of any
 -- length. ws: their widths. s: the slice's bytes. v: the fields' numbers.
 use mathlib.Core.Path.{_≡_, refl}
 use mathlib.Core.Bool.{Bool, _&&_, cond, false, true}

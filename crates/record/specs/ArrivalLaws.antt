@@ -13,7 +13,7 @@ use borrow.Author.Tests.{lt-ltb, le-ltb, le-leb, ltb-false, eqb-true, not-true, 
 use Rattle.lemmas.specs.Tests.{_under_, and-r, and-rest-false, or-l, or-r, or-cases, or-intro-l, or-intro-r}
 use Rattle.lemmas.specs.Lists.{part}
 use Rattle.lemmas.specs.BigEndian.{numberAt}
-use Rattle.rules.specs.Program.{broken, callIn, clockStart, frameLength, otherMark, overlong, recordHead, recordMagic}
+use Rattle.rules.specs.Program.{broken, callIn, clockStart, frameLength, mostFrame, otherMark, overlong, recordHead, recordMagic}
 use Rattle.record.specs.declared.Arrived.the-variants.{Whole, Malformed, Short}
 use Rattle.record.specs.Arrival.{malformed, RecordFacts, factsOf, recordFacts}
 
@@ -88,7 +88,7 @@ pub record IsWhole (s : List ℕ) (clock size : ℕ) : Type 0 where
   pub reading : clock ≡ callIn s .clock
   pub counted : size ≡ frameLength s
   pub frame : part s recordHead size ≡ callIn s .frame
-  pub most : size ≤ 65_536
+  pub most : size ≤ mostFrame
   pub fits : recordHead + size ≤ length s
 
 pub whole-facts : (s : List ℕ) → broken s ≡ false → IsWhole s (callIn s .clock) (frameLength s)
@@ -99,7 +99,7 @@ whole-facts s e = record {
   reading = refl;
   counted = refl;
   frame = refl;
-  most = ltb-false 65_536 (frameLength s) (search (or-l, or-r, e));
+  most = ltb-false mostFrame (frameLength s) (search (or-l, or-r, e));
   fits = ltb-false (length s) (recordHead + frameLength s) (search (or-l, or-r, e));
 }
 
@@ -117,7 +117,7 @@ facts-of-malformed s e = sym (ap RecordFacts.malformed e)
 
 -- one of which more must be read is shorter than the longest
 pub facts-of-short : (s : List ℕ) → factsOf Short ≡ recordFacts s
-    → (broken s ≡ true) × (malformed s ≡ false) × (length s < recordHead + 65_536)
+    → (broken s ≡ true) × (malformed s ≡ false) × (length s < recordHead + mostFrame)
 unfolding recordFacts
 facts-of-short s e =
     let b : broken s ≡ true = not-false (broken s) (sym (ap RecordFacts.whole e)) in
@@ -125,9 +125,9 @@ facts-of-short s e =
     (b, w, go b w (decLt (length s) recordHead) (decLt (length s) (recordHead + frameLength s)))
   where
     go : broken s ≡ true → malformed s ≡ false → Dec (length s < recordHead) → Dec (length s < recordHead + frameLength s)
-        → length s < recordHead + 65_536
+        → length s < recordHead + mostFrame
     go b w (yes h) l = omega arith
     go b w (no h) (yes l) =
         let n = not-malformed s w (omega arith) in
-        omega (arith, l, ltb-false 65_536 (frameLength s) (n .1))
+        omega (arith, l, ltb-false mostFrame (frameLength s) (n .1))
     go b w (no h) (no l) = absurd (true≢false (sym b ∙ all-there s w (omega arith) (omega arith)))

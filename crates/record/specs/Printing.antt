@@ -22,6 +22,7 @@ use Rattle.rules.specs.Program.{
   ended,
   frameLength,
   lengthStart,
+  mostFrame,
   otherMark,
   overlong,
   printed,
@@ -65,7 +66,8 @@ malformed-tests p q h = go (or-cases (leb clockStart (length p) && otherMark p) 
         → malformed (p ++ q) ≡ true
     go (inl e) = rw (stays p q clockStart otherMark (λ h. rw (number-left p q 0 clockStart h)) e)
     go (inr e) =
-        or-intro-r (leb clockStart (length (p ++ q)) && otherMark (p ++ q)) (leb recordHead (length (p ++ q)) && overlong (p ++ q))
+        or-intro-r (leb clockStart (length (p ++ q)) && otherMark (p ++ q))
+        (leb recordHead (length (p ++ q)) && overlong (p ++ q))
         (stays p q recordHead overlong (λ h. rw (length-stays p q h)) e)
 
 malformed-some : (p : List ℕ) → malformed p ≡ true → 0 < length p
@@ -87,7 +89,7 @@ whole-stays p q e =
     (neither
     (neither (le-ltb (length (p ++ q)) recordHead (omega (arith, w .fits, more)))
     (ap (λ (m : ℕ). m isnt recordMagic) mark))
-    (le-ltb 65_536 (frameLength (p ++ q)) (omega (arith, w .most, size))))
+    (le-ltb mostFrame (frameLength (p ++ q)) (omega (arith, w .most, size))))
     (le-ltb (length (p ++ q)) (recordHead + frameLength (p ++ q)) (omega (arith, w .fits, size, more)))
 
 -- ---- what the program prints, whatever comes later

@@ -1,5 +1,5 @@
--- Laws of `badRecords`, for the client end: what credential and request have where it fails, and that a request which is
--- not all there may be read either way.
+-- Laws of `badRecords`, for the client end: a request that is not all there may be read either way.
+-- a, b: the bytes of a credential and of a request.
 use mathlib.Core.Path.{_≡_, refl, sym, ap, _∙_}
 use mathlib.Core.Bool.{_||_, Bool, cond, false, not, true, true≢false}
 use mathlib.Core.List.{List, []}
@@ -11,7 +11,7 @@ use borrow.Author.Tests.{eqb-true, le-leb, leb-false, ne-eqb, not-false}
 use Rattle.lemmas.specs.Tests.{_is_, none-of}
 use Rattle.rules.specs.declared.Request.{Request}
 use Rattle.rules.specs.Client.{badRecords, recordFaults}
-use Rattle.rules.specs.Frame.{credentialSize, requestAt, requestOf, requestSize}
+use Rattle.rules.specs.Frame.{requestAt, requestOf, requestSize}
 use Rattle.fields.specs.Records.{requestIn}
 
 module _ (a b : List ℕ) where
@@ -34,17 +34,10 @@ module _ (a b : List ℕ) where
       go false e =
           rw (bad-length (ne-eqb (length b) requestSize (λ k. omega (arith, leb-false requestSize (length b) e)))) refl
 
-  -- where neither is bad, both have their lengths, and the request is read
-  module _ (good : badRecords a b ≡ false) where
-    pub good-credential : length a ≡ credentialSize
-    unfolding badRecords
-    good-credential = eqb-true (length a) credentialSize
-        (not-false (length a is credentialSize) (none-of (recordFaults a b) good 0))
-
-    pub good-request : length b ≡ requestSize
-    unfolding badRecords
-    good-request = eqb-true (length b) requestSize
-        (not-false (length b is requestSize) (none-of (recordFaults a b) good 1))
-
-    pub request-is-read : requestIn b 0 ≡ requestAt b 0
-    request-is-read = rw (le-leb requestSize (length b) (omega (arith, good-request))) refl
+  -- where neither is bad, the request is all there
+  pub request-is-read : badRecords a b ≡ false → requestIn b 0 ≡ requestAt b 0
+  unfolding badRecords
+  request-is-read good =
+      let long : length b ≡ requestSize = eqb-true (length b) requestSize
+      (not-false (length b is requestSize) (none-of (recordFaults a b) good 1)) in
+      rw (le-leb requestSize (length b) (omega arith)) refl

@@ -11,9 +11,12 @@ use Rattle.rules.specs.declared.Request.{Request}
 use Rattle.rules.specs.Frame.{digestSize}
 use Rattle.rules.specs.Operations.{head, headSize, replyCovered, replyLength, resultLength}
 
--- the reply is not the head and the length that the request calls for
+-- the reply is not the head, or not of the length, that the request calls for
+abbrev pub otherHead : List ℕ → Request → Bool
+otherHead s r = not (same (take headSize s) (head r (resultLength r)))
+
 unfoldable pub wrongShape : List ℕ → Request → Bool
-wrongShape s r = not (same (take headSize s) (head r (resultLength r))) || length s isnt replyLength r
+wrongShape s r = otherHead s r || length s isnt replyLength r
 
 -- the digest behind its first n bytes is another
 abbrev pub wrongDigest : List ℕ → List ℕ → List ℕ → List ℕ → ℕ → Bool

@@ -56,14 +56,16 @@ module _ (credential request payload digest : List ℕ) (hc : length credential 
 
   behind : drop dataStart whole ≡ payload ++ digest
   behind =
-      sym (drop-drop requestSize requestStart whole) ∙ ap (drop requestSize) (drop-at credential (request ++ (payload ++ digest)) requestStart hc)
+      sym (drop-drop requestSize requestStart whole)
+      ∙ ap (drop requestSize) (drop-at credential (request ++ (payload ++ digest)) requestStart hc)
       ∙ drop-at request (payload ++ digest) requestSize hr
 
   payload-part : (n : ℕ) → length payload ≡ n → part whole dataStart n ≡ payload
   unfolding part
   payload-part n h = rw behind (take-at payload digest n h)
 
-  digest-part : (n : ℕ) → length payload ≡ n → length digest ≡ digestSize → part whole (dataStart + n) digestSize ≡ digest
+  digest-part : (n : ℕ) → length payload ≡ n → length digest ≡ digestSize
+      → part whole (dataStart + n) digestSize ≡ digest
   unfolding part
   digest-part n h l =
       rw (sym (drop-drop n dataStart whole) ∙ ap (drop n) behind ∙ drop-at payload digest n h)
@@ -116,19 +118,20 @@ module _ (credential request payload key space : List ℕ)
   n-is = sym (eqb-true (r .n) (length payload) (not-false (r .n is length payload)
       (or-r (badRecords credential request) (r .n isnt length payload) (clear 28))))
 
-  room : leastFrame + length payload ≤ length space
+  pub frame-room : leastFrame + length payload ≤ length space
   unfolding buildRows applies
-  room = ltb-false (length space) (leastFrame + length payload) (clear 29)
+  frame-room = ltb-false (length space) (leastFrame + length payload) (clear 29)
 
   fault : (k : ℕ) → getD (recordFaults credential request) k false ≡ false
   unfolding badRecords
   fault k = none-of (recordFaults credential request) records k
 
-  hc : length credential ≡ credentialSize
-  hc = eqb-true (length credential) credentialSize (not-false (length credential is credentialSize) (fault 0))
+  pub credential-long : length credential ≡ credentialSize
+  credential-long = eqb-true (length credential) credentialSize
+      (not-false (length credential is credentialSize) (fault 0))
 
-  hr : length request ≡ requestSize
-  hr = eqb-true (length request) requestSize (not-false (length request is requestSize) (fault 1))
+  pub request-long : length request ≡ requestSize
+  request-long = eqb-true (length request) requestSize (not-false (length request is requestSize) (fault 1))
 
   abbrev sealing : List ℕ
   sealing = hmac key (covered (r .level) credential request payload)
@@ -148,13 +151,18 @@ module _ (credential request payload key space : List ℕ)
 
   pub built-fields : fields f ≡ parts
   unfolding frameOf
-  built-fields = whole-fields credential request payload sealing hc hr
+  built-fields = whole-fields credential request payload sealing credential-long request-long
       (length-hmac key (covered (r .level) credential request payload)) n-is
 
   length-frame : length f ≡ leastFrame + length payload
   unfolding frameOf
   length-frame =
-      simp (length-append) (omega (arith, hc, hr, length-hmac key (covered (r .level) credential request payload)))
+      simp (length-append) (omega (
+        arith,
+        credential-long,
+        request-long,
+        length-hmac key (covered (r .level) credential request payload),
+      ))
 
   no-row : firstRow (frameRows f parts) ≡ 0
   unfolding frameRows firstRow

@@ -41,11 +41,14 @@ callIn input = record {
 }
 
 -- "a record with another mark or without all its bytes, or a length over 65,536"
+abbrev pub mostFrame : ℕ
+mostFrame = 65_536
+
 abbrev pub otherMark : List ℕ → Bool
 otherMark input = numberAt input 0 2 isnt recordMagic
 
 abbrev pub overlong : List ℕ → Bool
-overlong input = frameLength input over 65_536
+overlong input = frameLength input over mostFrame
 
 unfoldable pub broken : List ℕ → Bool
 broken input =

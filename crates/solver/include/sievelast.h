@@ -39,7 +39,7 @@ struct sievelast_built sievelast_build(const uint8_t *credential, size_t credent
                                        size_t request_len, const uint8_t *data, size_t data_len, const uint8_t *key,
                                        size_t key_len, uint8_t *space, size_t space_len);
 
-/* Checks a drive's reply against the records that its frame was built from, and says where in it the result stands. At level 2
+/* Checks a drive's reply against the credential and request of its frame, and says where in it the result is. At level 2
  * the reply's digest is checked under the credential key. Only a result with row 0 may be believed. */
 struct sievelast_checked sievelast_check(const uint8_t *credential, size_t credential_len, const uint8_t *request,
                                          size_t request_len, const uint8_t *key, size_t key_len, const uint8_t *reply,

@@ -15,7 +15,8 @@ module _ (a b k s : List ℕ) (row : ℕ) (p : List ℕ) (m : CheckMet a b k s r
   is-row : row ≡ firstRow (checkRows a b k s)
   is-row = m .row ∙ check-row-is a b k s
 
-  pub checked-granted : row ≡ 0 → _≡_ {A = ReplyChecked} (record { row = 0; start = headSize; length = length p }) (checkedOf a b k s)
+  pub checked-granted : row ≡ 0
+      → _≡_ {A = ReplyChecked} (record { row = 0; start = headSize; length = length p }) (checkedOf a b k s)
   unfolding checkedOf
   checked-granted e =
       let z : firstRow (checkRows a b k s) ≡ 0 = sym is-row ∙ e in
@@ -23,8 +24,10 @@ module _ (a b k s : List ℕ) (row : ℕ) (p : List ℕ) (m : CheckMet a b k s r
       let l : length p ≡ check a b k s .length = ap length (m .result) ∙ found-length a b k s z in
       λ i. record { row = r i; start = sym (found-start a b k s z) i; length = l i }
 
-  pub checked-refused : (row ≡ 0 → ⊥) → _≡_ {A = ReplyChecked} (record { row = row; start = 0; length = 0 }) (checkedOf a b k s)
+  pub checked-refused : (row ≡ 0 → ⊥)
+      → _≡_ {A = ReplyChecked} (record { row = row; start = 0; length = 0 }) (checkedOf a b k s)
   unfolding checkedOf
   checked-refused n =
       let z : firstRow (checkRows a b k s) ≡ 0 → ⊥ = λ e. n (is-row ∙ e) in
-      λ i. record { row = m .row i; start = sym (refused-none a b k s z .0) i; length = sym (refused-none a b k s z .1) i }
+      let none = refused-none a b k s z in
+      λ i. record { row = m .row i; start = sym (none .0) i; length = sym (none .1) i }

@@ -18,11 +18,26 @@ use Rattle.rules.specs.declared.Operation.{Operation}
 use Rattle.wire.specs.declared.ParsedRequest.{ParsedRequest}
 use Rattle.wire.specs.declared.Parsed.{Parsed}
 use Rattle.wire.specs.declared.Parsed.the-variants.{Fields, Refused}
-use Rattle.wire.specs.Parse.{operationNumber, firstNumber, secondNumber, numbersOf, refusedBy, fieldsOf, answerOf, answerRow, answerBy, frameRow, frameAnswer, recordsAnswer, ArgumentsKept}
+use Rattle.wire.specs.Parse.{
+  operationNumber,
+  firstNumber,
+  secondNumber,
+  numbersOf,
+  refusedBy,
+  fieldsOf,
+  answerOf,
+  answerRow,
+  answerBy,
+  frameRow,
+  frameAnswer,
+  recordsAnswer,
+  ArgumentsKept,
+}
 
 -- ---- for a caller
 -- fields: no row from 2 to 7 applies, and they are the frame's
-pub answered-fields : (f : List ℕ) (c : Credential) (request : ParsedRequest) → answerOf (Fields c request) ≡ frameAnswer f
+pub answered-fields : (f : List ℕ) (c : Credential) (request : ParsedRequest)
+    → answerOf (Fields c request) ≡ frameAnswer f
     → (frameRow f ≡ 0) × (c ≡ fields f .cred) × (numbersOf request ≡ fields f .req)
 unfolding frameAnswer answerBy
 answered-fields f c request e = go (frameRow f is 0) refl e
@@ -34,7 +49,8 @@ answered-fields f c request e = go (frameRow f is 0) refl e
     go false z e = (cc, cc, cc)
 
 -- a row: it is the frame's, and not 0
-pub answered-refused : (f : List ℕ) (row : ℕ) → answerOf (Refused row) ≡ frameAnswer f → (row ≡ frameRow f) × (row ≡ 0 → ⊥)
+pub answered-refused : (f : List ℕ) (row : ℕ) → answerOf (Refused row) ≡ frameAnswer f
+    → (row ≡ frameRow f) × (row ≡ 0 → ⊥)
 unfolding frameAnswer answerBy
 answered-refused f row e = go (frameRow f is 0) refl e
   where

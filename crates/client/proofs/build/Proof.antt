@@ -1,12 +1,13 @@
 -- A refusal by `build-refused`; a grant joins credential, request, data and digest: `build-granted`.
 use mathlib.Core.Path.{_≡_, refl, sym, ap, _∙_}
-use lib.ListN.{length}
 use borrow.Author.Needs.{needs}
 use Rattle.digest.specs.Hmac.{hmac}
 use Rattle.rules.specs.declared.Request.{Request}
 use Rattle.rules.specs.Frame.{covered}
-use Rattle.client.specs.ClientRows.{buildRow}
-use Rattle.client.specs.ClientLaws.{build-refused, build-credential, build-request, build-room, build-granted}
+use Rattle.rules.specs.Client.{buildRows}
+use Rattle.rules.proofs.RoundTrip.{credential-long, frame-room, request-long}
+use Rattle.lemmas.specs.RowTable.{firstRow}
+use Rattle.client.proofs.ClientLaws.{build-refused, build-granted}
 use Rattle.client.proofs.build.Statement.{statement}
 use Rattle.client.proofs.build.Tie as tie
 
@@ -14,25 +15,25 @@ returns : tie.Need-returns
 returns c =
     let a = c .before .before .before .before .before .before .before .args in
     let i = c .before .build-row in
-    build-refused (a .credential .now) (a .request .now) (a .bytes .now) (a .key .now) (a .space .now) (i .result) _ (i .ensures) (c .if1 .taken) refl
+    build-refused (a .credential .now) (a .request .now) (a .bytes .now) (a .key .now) (a .space .now) (i .result) _ (i .ensures _ _ _ refl refl refl) (c .if1 .taken) refl
 
 -- no row applies
 zero : (t : tie.Else1)
     → let a = t .before .before .before .before .before .before .before .args in
-    buildRow (a .credential .now) (a .request .now) (length (a .bytes .now)) (length (a .key .now)) (length (a .space .now)) ≡ 0
-zero t = sym (t .before .build-row .ensures) ∙ t .if1 .left
+    firstRow (buildRows (a .credential .now) (a .request .now) (a .bytes .now) (a .key .now) (a .space .now)) ≡ 0
+zero t = sym (t .before .build-row .ensures _ _ _ refl refl refl) ∙ t .if1 .left
 
 join-requires : tie.Need-join-requires
 join-requires c κs =
     let t = c .before .before .before .before in
     let a = t .before .before .before .before .before .before .before .args in
-    (build-credential (a .credential .now) (a .request .now) (a .bytes .now) (a .key .now) (a .space .now) (zero t), build-request (a .credential .now) (a .request .now) (a .bytes .now) (a .key .now) (a .space .now) (zero t), build-room (a .credential .now) (a .request .now) (a .bytes .now) (a .key .now) (a .space .now) (zero t))
+    (credential-long (a .credential .now) (a .request .now) (a .bytes .now) (a .key .now) (a .space .now) (zero t), request-long (a .credential .now) (a .request .now) (a .bytes .now) (a .key .now) (a .space .now) (zero t), frame-room (a .credential .now) (a .request .now) (a .bytes .now) (a .key .now) (a .space .now) (zero t))
 
 returns-2 : tie.Need-returns-2
 returns-2 c =
     let t = c .before .before .before .before .before .before .before in
     let a = t .before .before .before .before .before .before .before .args in
-    build-granted (a .credential .now) (a .request .now) (a .bytes .now) (a .key .now) (a .space .now) (zero t) _ (c .before .before .before .before .before .frame-digest .result) _ refl refl
+    build-granted (a .credential .now) (a .request .now) (a .bytes .now) (a .key .now) (a .space .now) _ (c .before .before .before .before .before .frame-digest .result) _ (zero t) refl refl
     (c .before .before .before .before .before .frame-digest .ensures
     ∙ ap (λ (r : Request). hmac (a .key .now) (covered (r .level) (a .credential .now) (a .request .now) (a .bytes .now))) (c .before .before .before .before .before .before .request-in .ensures))
     (c .before .before .join .ensures)

@@ -2,13 +2,14 @@
 use mathlib.Core.Path.{_≡_, refl, sym, ap, _∙_}
 use mathlib.Core.List.{List}
 use Prim.Native.Nat.{ℕ}
-use lib.ListN.{length, take}
+use lib.ListN.{take}
 use lib.Seq.{length-take-le}
 use Rattle.digest.specs.Hmac.{hmac}
 use Rattle.rules.specs.Frame.{credentialSize}
-use Rattle.client.specs.ClientRows.{issueRow}
+use Rattle.rules.specs.Client.{issueRows}
+use Rattle.lemmas.specs.RowTable.{firstRow}
 use borrow.Author.Needs.{needs}
-use Rattle.client.specs.ClientLaws.{issue-refused, issue-granted, issue-room}
+use Rattle.client.proofs.ClientLaws.{issue-refused, issue-granted, issue-room}
 use Rattle.client.proofs.issue.Statement.{statement}
 use Rattle.client.proofs.issue.Tie as tie
 
@@ -16,11 +17,11 @@ returns : tie.Need-returns
 returns c =
     let a = c .before .before .before .before .args in
     let i = c .before .issue-row in
-    issue-refused (a .c) (a .key .now) (a .space .now) (i .result) _ (i .ensures) (c .if1 .taken) refl
+    issue-refused (a .c) (a .key .now) (a .space .now) (i .result) _ (i .ensures _ _ refl refl) (c .if1 .taken) refl
 
 -- no row applies, and the space has the credential's bytes
-zero : (t : tie.After-put-credential) → issueRow (t .before .before .before .before .before .before .args .c) (length (t .before .before .before .before .before .before .args .key .now)) (length (t .before .before .before .before .before .before .args .space .now)) ≡ 0
-zero t = sym (t .before .before .before .issue-row .ensures) ∙ t .before .before .if1 .left
+zero : (t : tie.After-put-credential) → let a = t .before .before .before .before .before .before .args in firstRow (issueRows (a .c) (a .key .now) (a .space .now)) ≡ 0
+zero t = sym (t .before .before .before .issue-row .ensures _ _ refl refl) ∙ t .before .before .if1 .left
 
 slice-reshare-prefix-of : tie.Need-slice-reshare-prefix-of
 slice-reshare-prefix-of c =

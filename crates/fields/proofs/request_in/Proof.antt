@@ -2,7 +2,7 @@
 use mathlib.Core.Path.{ap, _∙_}
 use Prim.Native.Nat.{ℕ, _<_, _^_}
 use native.Mathlib.Omega.{arith}
-use lib.ListN.{getD}
+use lib.ListN.{getD, length}
 use borrow.Author.Needs.{needs}
 use Rattle.rules.specs.Frame.{requestOf, requestWidths}
 use Rattle.octets.specs.Fields.{fields-small}
@@ -14,7 +14,7 @@ small : (c : tie.After-v2) (k : ℕ) → getD (c .before .read .last .1 .1 .1 .0
 small c k =
     let z = c .before .before .before .before in
     let a = z .before .args in
-    rw (c .before .read .ensures) (fields-small (a .s .now) (a .at) requestWidths 8 (λ j. omega (arith, z .shared-slice-known .given j)) k)
+    rw (c .before .read .ensures) (fields-small (a .s .now) (a .at) requestWidths (length requestWidths) (λ j. omega (arith, z .shared-slice-known .given j)) k)
 
 returns : tie.Need-returns
 returns c =

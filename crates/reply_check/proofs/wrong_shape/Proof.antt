@@ -1,6 +1,7 @@
 -- Another length is wrong whatever the head is (`shape-other`); of the right length, the head decides (`shape-same`).
 use mathlib.Core.Path.{_≡_, sym, _∙_}
 use Prim.Native.Nat.{_≤_}
+use native.Mathlib.Omega.{arith}
 use lib.ListN.{length}
 use lib.Seq.{length-take-le}
 use borrow.Author.Needs.{needs}
@@ -19,7 +20,7 @@ right : (t : tie.Else1) → length (t .before .before .before .args .reply .now)
 right t = t .if1 .left ∙ t .before .reply-length .ensures
 
 within : (t : tie.Else1) → headSize ≤ length (t .before .before .before .args .reply .now)
-within t = head-within (t .before .before .before .args .reply .now) (t .before .before .before .args .r) (right t)
+within t = omega (arith, head-within (t .before .before .before .args .reply .now) (t .before .before .before .args .r) (right t))
 
 slice-aggregate-same : tie.Need-slice-aggregate-same
 slice-aggregate-same c = sym (length-take-le headSize (c .before .before .before .before .before .before .args .reply .now) (within (c .before .before .before)))

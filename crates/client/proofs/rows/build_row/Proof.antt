@@ -5,16 +5,16 @@ use lib.Dec.{eqb}
 use borrow.Author.Needs.{needs}
 use Rattle.lemmas.specs.RowTable.{firstRow}
 use Prim.Native.Nat.{_+_}
+use Rattle.rules.specs.Client.{buildRows}
 use Rattle.rules.specs.Rows.{leastFrame}
-use Rattle.client.specs.ClientRows.{buildRow}
-use Rattle.client.specs.ClientLaws.{not-fits}
+use Rattle.client.proofs.ClientLaws.{not-fits}
 use Rattle.record_rows.specs.BadRecords.{bad-either}
 use Rattle.client.proofs.rows.build_row.Statement.{statement}
 use Rattle.client.proofs.rows.build_row.Tie as tie
 
 returns : tie.Need-returns
-unfolding buildRow firstRow
-returns c =
+unfolding buildRows firstRow
+returns c p k s e f g =
     let a = c .before .before .before .before .before .before .before .before .before .args in
     rw (
       c .pick3 .ensures,
@@ -25,6 +25,9 @@ returns c =
       not-fits (leastFrame + a .n) (a .space),
       c .before .before .before .before .before .before .request-in .ensures,
       bad-either (a .credential .now) (a .request .now) (λ r. not (eqb (r .n) (a .n))),
+      e,
+      f,
+      g,
     )
     refl
 

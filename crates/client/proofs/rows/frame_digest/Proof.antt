@@ -1,7 +1,7 @@
 -- The three parts in a row are what is covered: `covered-records` at level 0, `covered-data` from level 1.
 use mathlib.Core.Path.{_∙_}
 use borrow.Author.Needs.{needs}
-use Rattle.client.specs.ClientLaws.{covered-records, covered-data}
+use Rattle.client.proofs.ClientLaws.{covered-records, covered-data}
 use Rattle.client.proofs.rows.frame_digest.Statement.{statement}
 use Rattle.client.proofs.rows.frame_digest.Tie as tie
 

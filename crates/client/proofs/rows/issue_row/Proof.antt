@@ -2,14 +2,14 @@
 use mathlib.Core.Path.{refl}
 use borrow.Author.Needs.{needs}
 use Rattle.lemmas.specs.RowTable.{firstRow}
-use Rattle.client.specs.ClientRows.{issueRow}
+use Rattle.rules.specs.Client.{issueRows}
 use Rattle.client.proofs.rows.issue_row.Statement.{statement}
 use Rattle.client.proofs.rows.issue_row.Tie as tie
 
 returns : tie.Need-returns
-unfolding issueRow firstRow
-returns c =
-    rw (c .pick3 .ensures, c .before .pick2 .ensures, c .before .before .bad-credential .ensures, c .before .before .before .pick .ensures)
+unfolding issueRows firstRow
+returns c k s e f =
+    rw (c .pick3 .ensures, c .before .pick2 .ensures, c .before .before .bad-credential .ensures, c .before .before .before .pick .ensures, e, f)
     refl
 
 pub issue-row-spec : {M : Type 1} → statement M

@@ -3,7 +3,7 @@ use mathlib.Core.Path.{_≡_}
 use lib.ListN.{length}
 use borrow.Author.Needs.{needs}
 use Rattle.rules.specs.Frame.{digestSize}
-use Rattle.client.specs.ClientLaws.{four-parts}
+use Rattle.client.proofs.ClientLaws.{four-parts}
 use Rattle.client.proofs.rows.join.Statement.{statement}
 use Rattle.client.proofs.rows.join.Tie as tie
 

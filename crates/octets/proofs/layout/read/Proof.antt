@@ -34,12 +34,6 @@ number-at-requires c κs =
     let a = c .before .before .before .before .before .before .before .before .args in
     field-fits (a .widths .now) (l .i) (l .place) (length (a .s .now)) (l .inv .0) (omega arith)
 
-add-place : tie.Need-add-place Inv-loop μ-loop
-add-place c =
-    let l = c .before .before .before .loop in
-    let a = c .before .before .before .before .before .before .before .before .before .args in
-    omega (arith, field-fits (a .widths .now) (l .i) (l .place) (length (a .s .now)) (l .inv .0) (omega arith) .0)
-
 loop-again : tie.Need-loop-again Inv-loop μ-loop
 loop-again c =
     let l = c .before .before .before .loop in
@@ -51,9 +45,6 @@ loop-again c =
       simp length-set (l .inv .2),
       rw (c .number-at .ensures .0) (read-step ws (l .i) (l .place) (length (a .s .now)) (l .inv .0) h (a .s .now) (l .numbers) (omega (arith, l .inv .1)) ∙ l .inv .3),
     )
-
-same-length : tie.Need-same-length Inv-loop μ-loop
-same-length c = c .before .loop .inv .2
 
 returns-2 : tie.Need-returns-2 Inv-loop μ-loop
 returns-2 c =
@@ -68,4 +59,4 @@ read-spec =
     tie.close
     (tie.spec
     Inv-loop μ-loop (λ c κs. search needs) returns loop-holds (λ c. search needs) (λ c. search needs) number-at-requires (λ c. search needs)
-    (λ c. search needs) add-place (λ c. search needs) (λ c. search needs) loop-again same-length returns-2)
+    (λ c. search needs) (λ c. omega (arith, number-at-requires (c .before) (c .number-at .lifetimes) .0)) (λ c. search needs) (λ c. search needs) loop-again (λ c. c .before .loop .inv .2) returns-2)

@@ -54,9 +54,6 @@ loop-again c =
       rw (put .ensures) (write-step ws (l .i) (l .place) (length (a .s .now)) (l .inv .0) h (l .s) (a .numbers .now) (omega (arith, l .inv .1)) (l .inv .2) ∙ l .inv .3),
     )
 
-same-length : tie.Need-same-length Inv-loop μ-loop
-same-length c = c .before .loop .inv .2
-
 returns-2 : tie.Need-returns-2 Inv-loop μ-loop
 returns-2 c =
     let l = c .before .loop in
@@ -70,4 +67,4 @@ write-spec =
     tie.close
     (tie.spec
     Inv-loop μ-loop (λ c κs. search needs) returns loop-holds (λ c. search needs) (λ c. search needs) (λ c. search needs) (λ c. search needs)
-    put-at-requires add-place (λ c. search needs) (λ c. search needs) loop-again same-length returns-2)
+    put-at-requires add-place (λ c. search needs) (λ c. search needs) loop-again (λ c. c .before .loop .inv .2) returns-2)

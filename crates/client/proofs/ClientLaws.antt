@@ -12,34 +12,21 @@ use Rattle.lemmas.specs.Layout.{splice-after-size}
 use Rattle.lemmas.specs.Lists.{every, splice}
 use Rattle.lemmas.specs.Parts.{length-splice, splice-front}
 use Rattle.lemmas.specs.RowTable.{applies, firstRow, none-applies}
-use Rattle.lemmas.specs.Tests.{_isnt_, _under_, or-l}
+use Rattle.lemmas.specs.Tests.{_under_}
 use Rattle.digest.specs.Hmac.{hmac}
 use Rattle.rules.specs.declared.Credential.{Credential}
 use Rattle.rules.specs.declared.Request.{Request}
-use Rattle.rules.specs.Client.{badRecords, build, buildRows, frameOf, issue, issueRows}
-use Rattle.rules.specs.Frame.{
-  covered,
-  credential-size,
-  credentialBytes,
-  credentialNumbers,
-  credentialSize,
-  credentialWidths,
-  dataStart,
-  digestSize,
-  keySize,
-  requestAt,
-  requestSize,
-  requestStart,
-}
+use Rattle.rules.specs.Client.{build, buildRows, frameOf, issue, issueRows}
+use Rattle.rules.specs.Frame.{covered, credential-size, credentialBytes, credentialNumbers, credentialSize, credentialWidths, dataStart, digestSize, keySize, requestSize, requestStart}
 use Rattle.rules.specs.Rows.{leastFrame}
+use Rattle.rules.proofs.RoundTrip.{records}
 use Rattle.octets.specs.Numbers.{bytesPut}
 use Rattle.fields.specs.Records.{requestIn}
-use Rattle.record_rows.specs.BadRecords.{good-credential, good-request, request-is-read}
+use Rattle.record_rows.specs.BadRecords.{request-is-read}
 use Rattle.credential_bytes.specs.Put.{credentialPut}
 use Rattle.client.specs.declared.Built.{Built}
 use Rattle.client.specs.declared.Issued.{Issued}
 use Rattle.client.specs.Met.{BuildMet, IssueMet}
-use Rattle.client.specs.ClientRows.{build-row, buildRow, issue-row, issueRow}
 
 -- ---- bytes that do not fit have too little room
 pub not-fits : (n len : ℕ) → not (leb n len) ≡ (len under n)
@@ -83,88 +70,61 @@ four-parts s a b p h la lb lh room =
 
 -- ---- the issuer
 module _ (c : Credential) (k s : List ℕ) where
-  issue-is : (row : ℕ) → issueRow c (length k) (length s) ≡ row → firstRow (issueRows c k s) ≡ row
-  issue-is row e = issue-row c k s ∙ e
-
-  pub issue-refused : (row : ℕ) (r : Issued) → row ≡ issueRow c (length k) (length s) → (row ≡ 0 → ⊥) → r ≡ record { row = row; key = replicate keySize 0 }
+  pub issue-refused : (row : ℕ) (r : Issued) → row ≡ firstRow (issueRows c k s) → (row ≡ 0 → ⊥)
+      → r ≡ record { row = row; key = replicate keySize 0 }
       → IssueMet c k s r s
   unfolding issue
   issue-refused row r e n h =
-      let f : firstRow (issueRows c k s) ≡ row = issue-is row (sym e) in
       rw h (record {
-        row = rw (f, ne-eqb row 0 n) refl;
-        key = rw (f, ne-eqb row 0 n) refl;
-        space = rw (f, ne-eqb row 0 n) refl;
+        row = rw (← e, ne-eqb row 0 n) refl;
+        key = rw (← e, ne-eqb row 0 n) refl;
+        space = rw (← e, ne-eqb row 0 n) refl;
       })
 
-  issue-clear : issueRow c (length k) (length s) ≡ 0 → credentialSize ≤ length s
+  issue-clear : firstRow (issueRows c k s) ≡ 0 → credentialSize ≤ length s
   unfolding issueRows applies every
-  issue-clear e = ltb-false (length s) credentialSize (none-applies (issueRows c k s) refl (issue-is 0 e) 29)
+  issue-clear e = ltb-false (length s) credentialSize (none-applies (issueRows c k s) refl e 29)
 
   length-credential : length (credentialBytes c) ≡ credentialSize
   unfolding credentialBytes
   length-credential = length-encode credentialWidths (credentialNumbers c) ∙ credential-size
 
-  pub issue-room : issueRow c (length k) (length s) ≡ 0 → credentialSize ≤ length (credentialPut s c)
+  pub issue-room : firstRow (issueRows c k s) ≡ 0 → credentialSize ≤ length (credentialPut s c)
   issue-room e =
       let h : credentialSize ≤ length s = issue-clear e in
       rw (le-leb credentialSize (length s) h) (omega (arith, length-splice s (credentialBytes c) 0 (omega (arith, length-credential)), h))
 
-  pub issue-granted : (r : Issued) → issueRow c (length k) (length s) ≡ 0
+  pub issue-granted : (r : Issued) → firstRow (issueRows c k s) ≡ 0
       → r .row ≡ 0 → r .key ≡ hmac k (take credentialSize (credentialPut s c)) → IssueMet c k s r (credentialPut s c)
   unfolding issue
   issue-granted r e hr hk =
-      let f : firstRow (issueRows c k s) ≡ 0 = issue-is 0 e in
       let put : credentialPut s c ≡ splice s 0 (credentialBytes c) = rw (le-leb credentialSize (length s) (issue-clear e)) refl in
       let front : take credentialSize (splice s 0 (credentialBytes c)) ≡ credentialBytes c = splice-front s (credentialBytes c) credentialSize length-credential in
       record {
-        row = hr ∙ rw f refl;
-        key = hk ∙ ap (λ (l : List ℕ). hmac k (take credentialSize l)) put ∙ ap (hmac k) front ∙ rw f refl;
-        space = put ∙ rw f refl;
+        row = hr ∙ rw e refl;
+        key = hk ∙ ap (λ (l : List ℕ). hmac k (take credentialSize l)) put ∙ ap (hmac k) front ∙ rw e refl;
+        space = put ∙ rw e refl;
       }
 
 -- ---- the builder
 module _ (a b p k s : List ℕ) where
-  build-is : (row : ℕ) → buildRow a b (length p) (length k) (length s) ≡ row → firstRow (buildRows a b p k s) ≡ row
-  build-is row e = build-row a b p k s ∙ e
-
-  pub build-refused : (row : ℕ) (r : Built) → row ≡ buildRow a b (length p) (length k) (length s) → (row ≡ 0 → ⊥) → r ≡ record { row = row; length = 0 }
+  pub build-refused : (row : ℕ) (r : Built) → row ≡ firstRow (buildRows a b p k s) → (row ≡ 0 → ⊥)
+      → r ≡ record { row = row; length = 0 }
       → BuildMet a b p k s r s
   unfolding build
   build-refused row r e n h =
-      let f : firstRow (buildRows a b p k s) ≡ row = build-is row (sym e) in
       rw h (record {
-        row = rw (f, ne-eqb row 0 n) refl;
-        length = rw (f, ne-eqb row 0 n) refl;
-        space = rw (f, ne-eqb row 0 n) refl;
+        row = rw (← e, ne-eqb row 0 n) refl;
+        length = rw (← e, ne-eqb row 0 n) refl;
+        space = rw (← e, ne-eqb row 0 n) refl;
       })
 
-  module _ (e : buildRow a b (length p) (length k) (length s) ≡ 0) where
-    build-applies : (n : ℕ) → applies n (buildRows a b p k s) ≡ false
-    unfolding buildRows every
-    build-applies n = none-applies (buildRows a b p k s) refl (build-is 0 e) n
-
-    good : badRecords a b ≡ false
-    unfolding buildRows applies
-    good = or-l (badRecords a b) (requestAt b 0 .n isnt length p) (build-applies 28)
-
-    pub build-credential : length a ≡ credentialSize
-    build-credential = good-credential a b good
-
-    pub build-request : length b ≡ requestSize
-    build-request = good-request a b good
-
-    pub build-room : leastFrame + length p ≤ length s
-    unfolding buildRows applies
-    build-room = ltb-false (length s) (leastFrame + length p) (build-applies 29)
-
-    pub build-granted : (r : Built) (h after : List ℕ) → r .row ≡ 0 → r .length ≡ leastFrame + length p
-        → h ≡ hmac k (covered (requestIn b 0 .level) a b p) → after ≡ splice s 0 (a ++ (b ++ (p ++ h))) → BuildMet a b p k s r after
-    unfolding build frameOf
-    build-granted r h after hr hl hh ha =
-        let f : firstRow (buildRows a b p k s) ≡ 0 = build-is 0 e in
-        record {
-          row = hr ∙ rw f refl;
-          length = hl ∙ rw f refl;
-          space = ha ∙ rw f (ap (λ (d : List ℕ). splice s 0 (a ++ (b ++ (p ++ d)))) (hh ∙ ap (λ (x : Request). hmac k (covered (x .level) a b p)) (request-is-read a b good)));
-        }
+  pub build-granted : (r : Built) (h after : List ℕ) → firstRow (buildRows a b p k s) ≡ 0
+      → r .row ≡ 0 → r .length ≡ leastFrame + length p
+      → h ≡ hmac k (covered (requestIn b 0 .level) a b p) → after ≡ splice s 0 (a ++ (b ++ (p ++ h))) → BuildMet a b p k s r after
+  unfolding build frameOf
+  build-granted r h after e hr hl hh ha = record {
+    row = hr ∙ rw e refl;
+    length = hl ∙ rw e refl;
+    space = ha ∙ rw e (ap (λ (d : List ℕ). splice s 0 (a ++ (b ++ (p ++ d)))) (hh ∙ ap (λ (x : Request). hmac k (covered (x .level) a b p)) (request-is-read a b (records a b p k s e))));
+  }
