@@ -1,7 +1,7 @@
 -- A frame that none of rows 2 to 7 refuses: its length, its partition, and its parts as slices of it.
 -- f: the frame. c, q: what its parse gave.
 use mathlib.Core.Path.{_≡_, refl, ap, _∙_}
-use mathlib.Core.Bool.{true, false, cond}
+use mathlib.Core.Bool.{false, cond}
 use mathlib.Core.List.{List, _++_}
 use Prim.Native.Nat.{ℕ, _+_, _-_, _<_}
 use native.Mathlib.Omega.{arith}

@@ -1,6 +1,6 @@
 -- The result that a granted operation puts into the reply is the rules' result.
 -- s: the scope. x: the frame's fields. m: the medium. k: where the operation works. r: the reply space.
-use mathlib.Core.Path.{_≡_, refl, sym, ap, _∙_}
+use mathlib.Core.Path.{_≡_, refl, sym, _∙_}
 use mathlib.Core.List.{List, [], _++_}
 use Prim.Native.Nat.{ℕ, _+_, _≤_}
 use native.Mathlib.Omega.{arith}
