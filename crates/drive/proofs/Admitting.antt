@@ -19,7 +19,6 @@ use Rattle.rules.specs.declared.Entry.{Entry}
 use Rattle.rules.specs.declared.Object.{Object}
 use Rattle.rules.specs.declared.Operation.{Operation}
 use Rattle.rules.specs.Frame.{Fields, fields, digestSize, covered, entry, operation, operationOf}
-use Rattle.rules.specs.Drive as rules
 use Rattle.rules.specs.Drive.{quarter, mostEntries}
 use Rattle.rules.specs.Scope.{Scope}
 use Rattle.rules.specs.Operations.{

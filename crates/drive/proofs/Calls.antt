@@ -10,28 +10,28 @@ use Rattle.rules.specs.Gate.{Call}
 use Rattle.rules.specs.Ledger.{Fed}
 use Rattle.drive.specs.declared.Formatted.{Formatted}
 use Rattle.drive.specs.Met.{FormatMet}
-use Rattle.drive.specs.Chain.{after, Chain, CallMade, fedBy, DriveState, leftByCall, CallMet, viewedState}
+use Rattle.drive.specs.Chain.{after, Chain, CallMade, fedBy, DriveState, leftByCall, CallMet, viewed}
 
 -- the calls that were made
 abbrev pub callsOf : List CallMade → List Call
 callsOf cs = map CallMade.call cs
 
 -- one call
-step-met : (s : DriveState) (c : CallMade) → CallMet s c → step (viewedState s) (c .call) ≡ viewedState (leftByCall c)
+step-met : (s : DriveState) (c : CallMade) → CallMet s c → step (viewed s) (c .call) ≡ viewed (leftByCall c)
 unfolding step answer
 step-met s c m = λ i. record { drive = sym (m .drive) i; medium = sym (m .medium) i }
 
-pub row-met : (s : DriveState) (c : CallMade) → CallMet s c → answer (viewedState s) (c .call) .row ≡ c .answer .row
+pub row-met : (s : DriveState) (c : CallMade) → CallMet s c → answer (viewed s) (c .call) .row ≡ c .answer .row
 unfolding answer
 row-met s c m = sym (m .row)
 
-pub space-met : (s : DriveState) (c : CallMade) → CallMet s c → answer (viewedState s) (c .call) .space ≡ c .space
+pub space-met : (s : DriveState) (c : CallMade) → CallMet s c → answer (viewed s) (c .call) .space ≡ c .space
 unfolding answer
 space-met s c m = sym (m .space)
 
 -- all: drive and medium after them, and what they feed the ledger
 pub chain-after : (s : DriveState) (before later : List CallMade) → Chain s (before ++ later)
-    → rules.after (viewedState s) (callsOf before) ≡ viewedState (after s before)
+    → rules.after (viewed s) (callsOf before) ≡ viewed (after s before)
 unfolding rules.after after Chain
 chain-after s [] later k = refl
 chain-after s (c ∷ cs) later k =
@@ -39,7 +39,7 @@ chain-after s (c ∷ cs) later k =
     ∙ chain-after (leftByCall c) cs later (k .1)
 
 pub chain-fed : (s : DriveState) (before later : List CallMade) → Chain s (before ++ later)
-    → fed (viewedState s) (callsOf before) ≡ map fedBy before
+    → fed (viewed s) (callsOf before) ≡ map fedBy before
 unfolding fed Chain
 chain-fed s [] later k = refl
 chain-fed s (c ∷ cs) later k =
@@ -59,5 +59,5 @@ pub formatted : (medium : List ℕ) (F : ℕ) (master key : List ℕ) (r : Forma
     → _≡_ {A = rules.State} (record {
       drive = format medium F master key .drive;
       medium = format medium F master key .medium;
-    }) (viewedState (record { drive = r .drive; medium = zeroed }))
+    }) (viewed (record { drive = r .drive; medium = zeroed }))
 formatted medium F master key r zeroed m = λ i. record { drive = sym (m .drive) i; medium = sym (m .medium) i }

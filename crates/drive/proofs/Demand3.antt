@@ -14,7 +14,7 @@ use Rattle.rules.specs.Gate.{Call}
 use Rattle.rules.specs.Ledger.{bareScope, clocked, Ledger, ledger, ledgerScope, ledgerStart}
 use Rattle.rules.specs.Rows.{bounds}
 use Rattle.rules.proofs.Demand as rules·proofs
-use Rattle.drive.specs.Chain.{after, AllOfDemand3, ledgerAfterCalls, Chain, Demand3, CallMade, Granted, DriveState, viewedState}
+use Rattle.drive.specs.Chain.{after, AllOfDemand3, ledgerAfterCalls, Chain, Demand3, CallMade, Granted, DriveState, viewed}
 use Rattle.drive.proofs.Calls.{callsOf, chain-after, chain-fed, chain-rest, formatted, row-met, space-met}
 
 -- the calls of two parts of a list
@@ -22,7 +22,7 @@ calls-append : (before later : List CallMade) → callsOf (before ++ later) ≡ 
 calls-append before later = map-append CallMade.call before later
 
 module _ (M : ℕ) (s : DriveState) (l : Ledger) (calls : List CallMade) (k : Chain s calls)
-    (t : rules.Demand3 M (viewedState s) l (callsOf calls)) where
+    (t : rules.Demand3 M (viewed s) l (callsOf calls)) where
   chain-of : (before later : List CallMade) → calls ≡ before ++ later → Chain s (before ++ later)
   chain-of before later e = subst (Chain s) e k
 
@@ -32,12 +32,12 @@ module _ (M : ℕ) (s : DriveState) (l : Ledger) (calls : List CallMade) (k : Ch
 
   -- the ledger's book
   booked : (before later : List CallMade) → calls ≡ before ++ later
-      → rules.ledgerAfterCalls M (viewedState s) l (callsOf before) ≡ ledgerAfterCalls M l before
+      → rules.ledgerAfterCalls M (viewed s) l (callsOf before) ≡ ledgerAfterCalls M l before
   booked before later e = ap (ledger M l) (chain-fed s before later (chain-of before later e))
 
   -- a grant of the code is one of the rules
   granted : (before later : List CallMade) (c : CallMade) → calls ≡ before ++ (c ∷ later) → Granted c
-      → rules.Granted (viewedState s) (callsOf before) (c .call)
+      → rules.Granted (viewed s) (callsOf before) (c .call)
   unfolding Chain
   granted before later c e g =
       ap (λ (u : State). answer u (c .call) .row) (chain-after s before (c ∷ later) (chain-of before (c ∷ later) e))
@@ -45,7 +45,7 @@ module _ (M : ℕ) (s : DriveState) (l : Ledger) (calls : List CallMade) (k : Ch
       ∙ g
 
   spaced : (before later : List CallMade) (c : CallMade) → calls ≡ before ++ (c ∷ later)
-      → answer (rules.after (viewedState s) (callsOf before)) (c .call) .space ≡ c .space
+      → answer (rules.after (viewed s) (callsOf before)) (c .call) .space ≡ c .space
   unfolding Chain
   spaced before later c e =
       ap (λ (u : State). answer u (c .call) .space) (chain-after s before (c ∷ later) (chain-of before (c ∷ later) e))
@@ -58,7 +58,7 @@ module _ (M : ℕ) (s : DriveState) (l : Ledger) (calls : List CallMade) (k : Ch
         (split before (between ++ (c ∷ later)) b e
         ∙ ap (λ (r : List Call). callsOf before ++ (b .call ∷ r)) (calls-append between (c ∷ later)))
         (granted before (between ++ (c ∷ later)) b e gb)
-        (subst (λ (r : List Call). rules.Granted (viewedState s) r (c .call)) (calls-append before (b ∷ between))
+        (subst (λ (r : List Call). rules.Granted (viewed s) r (c .call)) (calls-append before (b ∷ between))
         (granted (before ++ (b ∷ between)) later c (e ∙ regroup before between later b c) gc));
     kept = λ before later c e g.
         subst (λ (b : Ledger). firstRow (bounds (bareScope (ledgerScope M (clocked (c .call .clock) b) (callFields (c .call) .cred)))

@@ -6,7 +6,7 @@ use Prim.Native.Nat.{ℕ}
 use native.Mathlib.Omega.{arith}
 use lib.ListN.{length}
 use borrow.Author.Tests.{eqb-true, eqb-false}
-use Rattle.lemmas.specs.Tests.{_is_, _isnt_}
+use Rattle.lemmas.specs.Tests.{_is_}
 use Rattle.lemmas.specs.Lists.{every}
 use Rattle.lemmas.specs.RowTable.{Row, line, firstRow, row-here, row-isnt}
 use Rattle.rules.specs.Frame.{Fields, fields}

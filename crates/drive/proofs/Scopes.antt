@@ -1,6 +1,6 @@
 -- The scope that the gate takes out of a drive, and the drive with an outcome put back: the last step of `gate`.
 use mathlib.Core.Path.{_≡_, refl, sym, ap, subst, _∙_}
-use mathlib.Core.Bool.{Bool, true, false, _&&_, _||_, not, cond}
+use mathlib.Core.Bool.{Bool, true, false, _&&_, _||_, not}
 use mathlib.Core.List.{List, [], _∷_, _++_, map}
 use Prim.Native.Nat.{ℕ, _+_, _-_, _*_, _≤_, _<_}
 use native.Mathlib.Omega.{arith}
@@ -8,7 +8,7 @@ use lib.Dec.{leb}
 use lib.ListN.{length, getD, drop, length-take, length-drop}
 use borrow.Rule.Slice.PartMut.{midOf, putMid}
 use borrow.Author.Tests.{leb-true, eq-eqb}
-use Rattle.lemmas.specs.Tests.{_is_, _under_}
+use Rattle.lemmas.specs.Tests.{_is_}
 use Rattle.lemmas.specs.Lists.{some?, update}
 use Rattle.lemmas.specs.ListLaws.{nth-map, every-nth, set-update}
 use Rattle.lemmas.specs.RowTable.{firstRow}
@@ -87,7 +87,7 @@ pub record Opened : Type 0 where
   pub whole : sound (view lent) ≡ true
   pub size : length medium ≡ lent .size
   pub parsed : ParsedTo frame cred request
-  pub placed : memory ≡ cond (cred .slot under 3) (cred .partition) 4
+  pub placed : memory ≡ memoryIndex cred
   pub found : replayed ≡ some? (sameEntry (entry cred (numbersOf request)))
       (getD (memoriesOf (fresh .lengths) (fresh .slots) (fresh .holders) (fresh .times) (fresh .counts)) memory [])
 

@@ -6,7 +6,7 @@ use lib.ListN.{getD}
 use Rattle.lemmas.specs.Lists.{update}
 use Rattle.rules.specs.declared.Credential.{Credential}
 use Rattle.rules.specs.Frame.{memoryIndex}
-use Rattle.rules.specs.Drive.{Drive, partitionAt, emptyPartition}
+use Rattle.rules.specs.Drive.{Drive, emptyPartition}
 use Rattle.rules.specs.Scope.{driveScope, driveWithScope}
 
 -- ---- one element of a list, changed

@@ -85,13 +85,16 @@ abbrev pub AllOfDemand1 : Type 0
 AllOfDemand1 = (s : DriveState) (c : CallMade) → CallMet s c → Demand1 s c
 
 -- ---- demand 3
--- drive and medium as the rules see them
-abbrev pub viewedState : DriveState → State
-viewedState s = record { drive = view (s .drive); medium = s .medium }
+-- a drive and a medium as the rules see them
+abbrev pub stateOf : Drive → List ℕ → State
+stateOf d m = record { drive = view d; medium = m }
+
+abbrev pub viewed : DriveState → State
+viewed s = stateOf (s .drive) (s .medium)
 
 -- all of demand 3, of the calls made from drive and medium s on, M bytes, with the ledger that starts as l
 pub record Demand3 (M : ℕ) (s : DriveState) (l : Ledger) (calls : List CallMade) : Type 0 where
-  -- "No two grants in the whole list facts nonce memory, key slot, holder, time and count."
+  -- "No two grants in the whole list share nonce memory, key slot, holder, time and count."
   pub noRepeat : (before between later : List CallMade) (b c : CallMade)
       → calls ≡ before ++ (b ∷ (between ++ (c ∷ later)))
       → Granted b
@@ -115,7 +118,7 @@ pub record Demand3 (M : ℕ) (s : DriveState) (l : Ledger) (calls : List CallMad
   -- "After every call the drive holds exactly the objects that the grants so far left, their areas disjoint and each
   -- inside its own partition." And before the first
   pub agrees : (before later : List CallMade) → calls ≡ before ++ later
-      → Agrees M (viewedState (after s before)) (ledgerAfterCalls M l before)
+      → Agrees M (viewed (after s before)) (ledgerAfterCalls M l before)
 
 -- for every format that returned row 0 and every list of calls, "whatever the frames say, whatever the clock does and
 -- whatever spaces are lent"

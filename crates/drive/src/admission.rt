@@ -1,17 +1,15 @@
 // Rows 8 to 23 and a grant, of what the frame can see of the drive.
 ghost use mathlib.Core.Path.{_≡_};
-ghost use mathlib.Core.Bool.{cond};
 ghost use mathlib.Core.Option.{Option·getD};
 ghost use mathlib.Core.List.{List, _++_};
 ghost use Prim.Native.Nat.{ℕ, _+_, _<_, _≤_};
 ghost use lib.ListN.{length, take};
-ghost use Rattle.lemmas.specs.Tests.{_under_};
 ghost use Rattle.lemmas.specs.Lists.{same};
 ghost use Rattle.rules.specs.declared.Entry.{Entry};
 ghost use Rattle.digest.specs.Hmac.{hmac};
 ghost use Rattle.digest.specs.Keyed.{Keyed};
 ghost use Rattle.rules.specs.Drive.{largestMedium};
-ghost use Rattle.rules.specs.Frame.{credentialSize, dataStart, fields, covered};
+ghost use Rattle.rules.specs.Frame.{credentialSize, dataStart, fields, covered, memoryIndex};
 ghost use Rattle.rules.specs.Rows.{leastFrame};
 ghost use Rattle.placing.specs.Placing.{placeOption};
 ghost use Rattle.state.specs.Table.{tableSize, partitionIn};
@@ -40,7 +38,7 @@ const KEY: usize = 32;
 
 // Which of the five memories: one for each partition (slots 0 to 2), a fifth for slots 3 and 4.
 pub fn memory_of(c: Credential) -> usize
-    ensures { λ r. ⌜ r ≡ cond (c .slot under 3) (c .partition) 4 ⌝ }
+    ensures { λ r. ⌜ r ≡ memoryIndex c ⌝ }
 {
     if c.slot < 3 { c.partition as usize } else { 4 }
 }

@@ -1,6 +1,6 @@
 -- The medium after a granted operation is the rules' medium after it.
 -- s: the scope. x: the frame's fields. m: the medium. k: where the operation works.
-use mathlib.Core.Path.{_≡_, refl, ap, _∙_}
+use mathlib.Core.Path.{_≡_, refl}
 use mathlib.Core.List.{List}
 use Prim.Native.Nat.{ℕ, _+_, _≤_}
 use lib.ListN.{length}

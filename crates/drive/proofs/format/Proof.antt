@@ -1,4 +1,4 @@
--- Refused or made, what the rules say (refused, made); row 26 tells of the keys (lent).
+-- Refused or made, what the rules say (refused, made); row 26 is that of the keys (lent).
 use mathlib.Core.Path.{_≡_, refl, sym, ap, _∙_}
 use mathlib.Core.Bool.{false, _||_}
 use mathlib.Core.Option.{some}

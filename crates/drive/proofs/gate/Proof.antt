@@ -2,7 +2,7 @@
 use mathlib.Core.Path.{_≡_, refl, sym, ap, _∙_}
 use mathlib.Core.Bool.{Bool, true, false, _&&_, not}
 use mathlib.Core.List.{[], map}
-use Prim.Native.Nat.{ℕ, _*_, _<_}
+use Prim.Native.Nat.{_<_}
 use native.Mathlib.Omega.{arith}
 use lib.Dec.{leb}
 use lib.ListN.{length, getD}
@@ -51,23 +51,26 @@ at-parse t = t .before .before .before
 abbrev at-told : tie.After-memory-of → tie.After-known-told
 at-told t = t .before
 
+abbrev at-memory : tie.After-entry-of → tie.After-memory-of
+at-memory t = t .before
+
 abbrev at-nonce : tie.After-counts4 → tie.After-entry-of
 at-nonce t = t .before .before .before .before .before
 
-abbrev at-scope : tie.After-admit-arg3 → tie.After-is-replayed
-at-scope t = t .before .before .before .before .before .before
+abbrev at-scope : tie.After-keys2 → tie.After-is-replayed
+at-scope t = t .before .before
 
 abbrev at-admit : tie.After-struct-known2 → tie.After-admit
 at-admit t = t .before .before .before .before .before
 
-abbrev at-granted : tie.After-change-keys → tie.Else2
-at-granted t = t .before .before
+abbrev at-granted : tie.After-keys3 → tie.Else2
+at-granted t = t .before
 
-abbrev at-keys : tie.After-apply → tie.After-change-keys
-at-keys t = t .before .before .before
+abbrev at-keys : tie.After-keys4 → tie.After-change-keys
+at-keys t = t .before
 
-abbrev at-table : tie.After-counts5 → tie.After-apply
-at-table t = t .before .before .before .before .before .before
+abbrev at-table : tie.After-lengths6 → tie.After-apply
+at-table t = t .before .before
 
 abbrev at-entered : tie.After-answered4 → tie.After-enter
 at-entered t = t .before .before .before .before .before .before
@@ -80,7 +83,7 @@ abbrev start2 : tie.After-drop-outlived → tie.Start
 start2 t = start1 (at-sound (t .before))
 
 abbrev fresh-of : tie.After-entry-of → tie.After-drop-outlived
-fresh-of t = at-fresh (at-parse (at-told (t .before)))
+fresh-of t = at-fresh (at-parse (at-told (at-memory t)))
 
 abbrev start3 : tie.After-is-replayed → tie.Start
 start3 t = start2 (fresh-of (at-nonce (t .before)))
@@ -88,8 +91,17 @@ start3 t = start2 (fresh-of (at-nonce (t .before)))
 abbrev admit-of : tie.Else2 → tie.After-admit
 admit-of t = at-admit (t .before)
 
+abbrev opening : tie.After-admit-arg3 → tie.After-is-replayed
+opening t = at-scope (t .before .before .before .before)
+
 abbrev scope-of : tie.Else2 → tie.After-is-replayed
-scope-of t = at-scope (admit-of t .before)
+scope-of t = opening (admit-of t .before)
+
+abbrev table-of : tie.After-answered4 → tie.After-apply
+table-of t = at-table (at-entered t .before .before .before .before .before)
+
+abbrev grant-of : tie.After-apply → tie.Else2
+grant-of t = at-granted (at-keys (t .before .before) .before)
 
 -- ---- how long the arrays are
 wide : (t : tie.Start) → let d = t .args .drive in
@@ -192,19 +204,19 @@ low-memory t = let h = in-five (parsed-of (at-told t)) in omega (arith, t .memor
 
 -- ---- the frame's scope is taken out of the drive
 found : (t : tie.After-is-replayed) → let n = at-nonce (t .before) in let d = now (fresh-of n) in
-    t .is-replayed .result ≡ some? (sameEntry (entry (cred (at-told (n .before))) (numbersOf (req (at-told (n .before))))))
-    (getD (memoriesOf (d .lengths) (d .slots) (d .holders) (d .times) (d .counts)) (n .before .memory-of .result) [])
+    t .is-replayed .result ≡ some? (sameEntry (entry (cred (at-told (at-memory n))) (numbersOf (req (at-told (at-memory n))))))
+    (getD (memoriesOf (d .lengths) (d .slots) (d .holders) (d .times) (d .counts)) (at-memory n .memory-of .result) [])
 found t =
     let n = at-nonce (t .before) in
     let d = now (fresh-of n) in
     t .is-replayed .ensures
     ∙ ap (λ (e : Entry). some? (sameEntry e) (getD (memoriesOf (d .lengths) (d .slots) (d .holders) (d .times) (d .counts))
-    (n .before .memory-of .result) [])) (n .entry-of .ensures)
+    (at-memory n .memory-of .result) [])) (n .entry-of .ensures)
 
 abbrev opened : tie.After-is-replayed → Opened
 opened t =
     let n = at-nonce (t .before) in
-    let k = n .before in
+    let k = at-memory n in
     let D = fresh-of n in
     let a = start2 D .args in
     record {
@@ -227,9 +239,9 @@ opened t =
     }
 
 -- the memories are as drop_outlived left them
-left-of : (t : tie.After-apply) → let d = now (fresh-of (at-nonce (scope-of (at-granted (at-keys t)) .before))) in
+left-of : (t : tie.After-apply) → let d = now (fresh-of (at-nonce (scope-of (grant-of t) .before))) in
     MemoriesFit (d .lengths) (d .slots) (d .holders) (d .times) (d .counts)
-left-of t = fresh-of (at-nonce (scope-of (at-granted (at-keys t)) .before)) .drop-outlived .ensures .1
+left-of t = fresh-of (at-nonce (scope-of (grant-of t) .before)) .drop-outlived .ensures .1
 
 returns : tie.Need-returns
 unfolding view
@@ -266,85 +278,85 @@ returns-2 c =
 is-replayed-requires : tie.Need-is-replayed-requires
 is-replayed-requires c κs =
     let n = at-nonce c in
-    (fresh-of n .drop-outlived .ensures .1, low-memory (n .before))
+    (fresh-of n .drop-outlived .ensures .1, low-memory (at-memory n))
 
 mul-held : tie.Need-mul-held
-mul-held c = let h = low-memory (at-nonce (c .before) .before) in search needs
+mul-held c = let h = low-memory (at-memory (at-nonce (c .before))) in search needs
 
 array-read-held : tie.Need-array-read-held
-array-read-held c = low-memory (at-nonce (c .before) .before)
+array-read-held c = low-memory (at-memory (at-nonce (c .before)))
 
 slice-aggregate-admit : tie.Need-slice-aggregate-admit
-slice-aggregate-admit c = sym (wide (start3 (c .before .before)) .0)
+slice-aggregate-admit c = sym (wide (start3 (at-scope c)) .0)
 
 part-admit-end : tie.Need-part-admit-end
 part-admit-end c =
-    let t = c .before .before .before in
+    let t = at-scope (c .before) in
     let h = in-four (opened t .parsed) in
     let w = wide (start3 t) .1 in
     omega (arith, h, w)
 
 admit-requires : tie.Need-admit-requires
-admit-requires c κs = let o = opened (at-scope c) in (mem o, ready o)
+admit-requires c κs = let o = opened (opening c) in (mem o, ready o)
 
 returns-3 : tie.Need-returns-3
 returns-3 c =
     let t = at-admit (c .before .before) in
-    let o = opened (at-scope (t .before)) in
+    let o = opened (opening (t .before)) in
     let e = c .answered3 .ensures in
     met-refused o (t .admit .ensures (mem o) (ready o)) (c .before .if2 .taken) _
     (ap Answer.row e) (ap Answer.length e) (ap Answer.drive e)
 
 slice-aggregate-change-keys : tie.Need-slice-aggregate-change-keys
-slice-aggregate-change-keys c = sym (wide (start3 (scope-of (c .before))) .0)
+slice-aggregate-change-keys c = sym (wide (start3 (scope-of (at-granted c))) .0)
 
 change-keys-requires : tie.Need-change-keys-requires
-change-keys-requires c κs = long (opened (scope-of (c .before)) .parsed)
+change-keys-requires c κs = long (opened (scope-of (at-granted c)) .parsed)
 
 part-tables-end : tie.Need-part-tables-end
 part-tables-end c =
-    let t = scope-of (at-granted (c .before)) in
+    let t = scope-of (at-granted (at-keys c .before)) in
     let h = in-four (opened t .parsed) in
     let w = wide (start3 t) .1 in
     omega (arith, h, w)
 
 slice-aggregate-enter : tie.Need-slice-aggregate-enter
-slice-aggregate-enter c = sym (left-of (c .before .before) .five)
+slice-aggregate-enter c = sym (left-of (at-table c) .five)
 
 slice-aggregate-enter-2 : tie.Need-slice-aggregate-enter-2
-slice-aggregate-enter-2 c = sym (left-of (c .before .before .before) .slots)
+slice-aggregate-enter-2 c = sym (left-of (at-table (c .before)) .slots)
 
 slice-aggregate-enter-3 : tie.Need-slice-aggregate-enter-3
-slice-aggregate-enter-3 c = sym (left-of (c .before .before .before .before) .holders)
+slice-aggregate-enter-3 c = sym (left-of (at-table (c .before .before)) .holders)
 
 slice-aggregate-enter-4 : tie.Need-slice-aggregate-enter-4
-slice-aggregate-enter-4 c = sym (left-of (c .before .before .before .before .before) .times)
+slice-aggregate-enter-4 c = sym (left-of (at-table (c .before .before .before)) .times)
 
 slice-aggregate-enter-5 : tie.Need-slice-aggregate-enter-5
-slice-aggregate-enter-5 c = sym (left-of (c .before .before .before .before .before .before) .counts)
+slice-aggregate-enter-5 c = sym (left-of (at-table (c .before .before .before .before)) .counts)
 
 enter-requires : tie.Need-enter-requires
 enter-requires c κs =
-    let t = at-table c in
-    let e = at-granted (at-keys t) in
+    let t = at-table (c .before .before .before .before) in
+    let e = grant-of t in
     let o = opened (scope-of e) in (
       left-of t,
-      low-memory (at-nonce (scope-of e .before) .before),
+      low-memory (at-memory (at-nonce (scope-of e .before))),
       has-room o (admit-of e .admit .ensures (mem o) (ready o)) (e .if2 .left),
     )
 
 same-length-3 : tie.Need-same-length-3
-same-length-3 c = admit-of (at-granted (at-keys (at-table (at-entered c .before)))) .admit .kept .1 .1 .1 .0
+same-length-3 c = admit-of (grant-of (table-of c)) .admit .kept .1 .1 .1 .0
 
 same-length-4 : tie.Need-same-length-4
-same-length-4 c = admit-of (at-granted (at-keys (at-table (at-entered c .before)))) .admit .kept .1 .1 .1 .1 .1 .0
+same-length-4 c = admit-of (grant-of (table-of c)) .admit .kept .1 .1 .1 .1 .1 .0
 
 returns-4 : tie.Need-returns-4
 returns-4 c =
     let n = at-entered c in
-    let p = at-table (n .before) in
-    let g = at-keys p in
-    let e = at-granted g in
+    let p = table-of c in
+    let g = at-keys (p .before .before) in
+    let e = grant-of p in
     let o = opened (scope-of e) in
     let s = at-nonce (scope-of e .before) in
     let l = n .enter .last in

@@ -38,8 +38,11 @@ use Rattle.drive.proofs.admission.admit.Statement.{statement}
 use Rattle.drive.proofs.admission.admit.Tie as tie
 
 -- ---- the places, each by its neighbour
+abbrev at-key : tie.After-is-set → tie.After-key-index
+at-key t = t .before
+
 abbrev at-start : tie.After-is-set → tie.Start
-at-start t = t .before .before .before .before .before .before .before .before
+at-start t = at-key t .before .before .before .before .before .before .before
 
 abbrev at-set : tie.After-records-mac → tie.Else1
 at-set t = t .before .before
@@ -47,8 +50,14 @@ at-set t = t .before .before
 abbrev at-hash : tie.Else2 → tie.After-records-mac
 at-hash t = t .before .before
 
+abbrev at-whole : tie.After-look-up → tie.After-length-with
+at-whole t = t .before
+
+abbrev at-result : tie.After-look-up → tie.After-result-length
+at-result t = at-whole t .before
+
 abbrev at-numbers : tie.After-look-up → tie.After-numbers
-at-numbers t = t .before .before .before
+at-numbers t = at-result t .before
 
 abbrev at-signed : tie.After-look-up → tie.Else2
 at-signed t = at-numbers t .before
@@ -82,7 +91,7 @@ Given t l =
 set-of : (t : tie.Else1) → let a = start1 t .args in isSet (a .keys .now) (keyIndex (a .c .slot) (a .c .partition)) ≡ true
 set-of t =
     let i = t .before .is-set in
-    ap (isSet (start1 t .args .keys .now)) (sym (t .before .before .key-index .ensures)) ∙ sym (i .ensures)
+    ap (isSet (start1 t .args .keys .now)) (sym (at-key (t .before) .key-index .ensures)) ∙ sym (i .ensures)
     ∙ not-false (i .result) (t .if1 .left)
 
 -- its bytes
@@ -94,11 +103,11 @@ found-of : (t : tie.Else1) (l : List Entry) → Given (start1 t) l → let a = s
 found-of t l w = let a = start1 t .args in key-in-set (a .keys .now) (a .c .partition) (a .c .slot) (w .keys) (set-of t)
 
 -- they are within the keys
-there : (t : tie.Else1) → (length (start1 t .args .keys .now) ≡ 462) × (t .before .before .key-index .result < 14)
+there : (t : tie.Else1) → (length (start1 t .args .keys .now) ≡ 462) × (at-key (t .before) .key-index .result < 14)
 there t =
     let a = start1 t .args in
     let h = set-there (a .keys .now) (keyIndex (a .c .slot) (a .c .partition)) (set-of t) in
-    let e = t .before .before .key-index .ensures in
+    let e = at-key (t .before) .key-index .ensures in
     (h .0, omega (arith, h .1))
 
 -- the keyed hash has taken credential and request under the credential key
@@ -108,7 +117,7 @@ keyed-of : (t : tie.After-records-mac) (l : List Entry) → Given (start1 (at-se
 keyed-of t l w =
     let a = start1 (at-set t) .args in
     let f = a .frame .now in
-    let j = at-set t .before .before .key-index in
+    let j = at-key (at-set t .before) .key-index in
     let key : hmac (midOf (32 * j .result) (32 * j .result + 32 - 32 * j .result) (a .keys .now)) (take credentialSize f)
     ≡ credentialKey (keysIn (a .keys .now)) (fields f) =
     ap (λ (k : List ℕ). hmac k (take credentialSize f))
@@ -128,14 +137,14 @@ compared t l w =
 
 -- what is worked out before the rows are judged
 prepared : (t : tie.After-judge) → let a = start3 t .args in let n = at-found t in
-    Prepared (a .facts) (a .table .now) (a .c) (a .request) (at-numbers n .numbers .result) (n .before .before .result-length .result)
-    (n .before .length-with .result) (n .look-up .result) (placeOption (t .before .placement .result))
+    Prepared (a .facts) (a .table .now) (a .c) (a .request) (at-numbers n .numbers .result) (at-result n .result-length .result)
+    (at-whole n .length-with .result) (n .look-up .result) (placeOption (t .before .placement .result))
 prepared t =
     let n = at-found t in
     record {
       numbers = at-numbers n .numbers .ensures;
-      result = n .before .before .result-length .ensures;
-      reply = n .before .length-with .ensures;
+      result = at-result n .result-length .ensures;
+      reply = at-whole n .length-with .ensures;
       named = n .look-up .ensures;
       placed = t .before .placement .ensures;
     }
@@ -158,7 +167,7 @@ returns c l w =
     let t = c .before .before in
     let a = at-start t .args in
     let unset : isSet (a .keys .now) (keyIndex (a .c .slot) (a .c .partition)) ≡ false =
-    ap (isSet (a .keys .now)) (sym (t .before .key-index .ensures)) ∙ sym (t .is-set .ensures)
+    ap (isSet (a .keys .now)) (sym (at-key t .key-index .ensures)) ∙ sym (t .is-set .ensures)
     ∙ not-true (t .is-set .result) (c .before .if1 .taken) in
     refusal-given w (a .reply .now) (c .refusal .result) 8
     (eight w (a .reply .now) (key-in-unset (a .keys .now) (a .c .partition) (a .c .slot) (w .keys) unset))

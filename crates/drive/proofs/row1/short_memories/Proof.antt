@@ -1,4 +1,4 @@
--- r tells of the first i lengths (every-take).
+-- r is that of the first i lengths (every-take).
 use mathlib.Core.Path.{_≡_, refl}
 use Prim.Native.Nat.{_-_, _≤_}
 use native.Mathlib.Omega.{arith}

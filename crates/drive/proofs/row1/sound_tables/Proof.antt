@@ -1,4 +1,4 @@
--- r tells of the first i tables (every-take), in the view (every-mapped); a table is one part of the array (tables-at).
+-- r is that of the first i tables (every-take), in the view (every-mapped); a table is one part of the array (tables-at).
 use mathlib.Core.Path.{_≡_, refl, sym, ap, subst, _∙_}
 use mathlib.Core.Bool.{true}
 use mathlib.Core.List.{List, []}
