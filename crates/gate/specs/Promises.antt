@@ -7,7 +7,7 @@ use native.Mathlib.Omega.{arith}
 use lib.ListN.{length, take, drop, length-drop}
 use lib.Seq.{take-all, take-add, drop-at, drop-drop, length-take-le}
 use Rattle.lemmas.specs.Lists.{part}
-use Rattle.rules.specs.Program.{recordHead, frameLength, callIn, broken}
+use Rattle.rules.specs.Program.{recordHead, frameLength, callIn, broken, mostFrame}
 use Rattle.rules.specs.Demands.{State}
 use Rattle.record.specs.Arrival.{malformed}
 use Rattle.record.specs.ArrivalLaws.{facts-of-short, facts-when-broken}
@@ -20,10 +20,7 @@ use Rattle.gate.specs.declared.Refilled.{Refilled}
 use Rattle.gate.specs.Answered.{stateOf}
 use Rattle.gate.specs.Printed.{Printed}
 
--- ---- sizes, in bytes: the longest frame in an input record, the input buffer, and room for the longest line
-abbrev pub longestFrame : ℕ
-longestFrame = 65_536
-
+-- ---- sizes, in bytes: the input buffer, and room for the longest line
 abbrev pub inputSize : ℕ
 inputSize = 131_086
 
@@ -60,7 +57,7 @@ pub record DrainMet (input : List ℕ) (calls : ℕ) (r : Progress) : Type 0 whe
 
 -- ---- the pending bytes lie within the input buffer, and are fewer than the longest record has
 abbrev pub PendingFits : Pending → Type 0
-PendingFits p = (p .from ≤ p .to) × (p .to ≤ inputSize) × (p .to < p .from + (recordHead + longestFrame))
+PendingFits p = (p .from ≤ p .to) × (p .to ≤ inputSize) × (p .to < p .from + (recordHead + mostFrame))
 
 -- they have moved from p to r, and there is room behind them
 pub record MakeRoomMet (buf : List ℕ) (p : Pending) (buf′ : List ℕ) (r : Pending) : Type 0 where
@@ -126,7 +123,7 @@ part-rest s from to taken h l =
 pub left-short : (s : List ℕ) (from to taken : ℕ) → from + taken ≤ to → to ≤ length s
     → broken (drop taken (take (to - from) (drop from s))) ≡ true
     → malformed (take (to - (from + taken)) (drop (from + taken) s)) ≡ false
-    → to < from + taken + (recordHead + longestFrame)
+    → to < from + taken + (recordHead + mostFrame)
 left-short s from to taken h l b w =
     let r : List ℕ = take (to - (from + taken)) (drop (from + taken) s) in
     let b′ : broken r ≡ true = subst (λ (x : List ℕ). broken x ≡ true) (part-rest s from to taken h l) b in
