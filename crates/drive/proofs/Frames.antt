@@ -1,14 +1,14 @@
 -- A frame that none of rows 2 to 7 refuses: its length, its partition, and its parts as slices of it.
 -- f: the frame. c, q: what its parse gave.
 use mathlib.Core.Path.{_≡_, refl, ap, _∙_}
-use mathlib.Core.Bool.{false, cond}
+use mathlib.Core.Bool.{false}
 use mathlib.Core.List.{List, _++_}
 use Prim.Native.Nat.{ℕ, _+_, _-_, _<_}
 use native.Mathlib.Omega.{arith}
 use lib.ListN.{length, take, drop}
 use lib.Seq.{take-add, drop-drop}
 use borrow.Author.Tests.{eqb-true, not-false}
-use Rattle.lemmas.specs.Tests.{_is_, _under_, or-r}
+use Rattle.lemmas.specs.Tests.{_is_, or-r}
 use Rattle.lemmas.specs.Lists.{every, part}
 use Rattle.lemmas.specs.RowTable.{applies, none-applies}
 use Rattle.rules.specs.declared.Credential.{Credential}
@@ -18,6 +18,8 @@ use Rattle.rules.proofs.Clear.{low-partition, low-memory}
 use Rattle.wire.specs.declared.ParsedRequest.{ParsedRequest}
 use Rattle.wire.specs.Parse.{frameRow, numbersOf}
 use Rattle.wire.specs.ParseLaws.{answered-fields}
+use Rattle.keyring.specs.Keys.{partitionCount}
+use Rattle.memory.specs.Memory.{memoryCount}
 use Rattle.drive.specs.Admission.{ParsedTo}
 
 module _ {f : List ℕ} {c : Credential} {q : ParsedRequest} (parsed : ParsedTo f c q) where
@@ -47,14 +49,13 @@ module _ {f : List ℕ} {c : Credential} {q : ParsedRequest} (parsed : ParsedTo 
   pub partition-is : c .partition ≡ fields f .cred .partition
   partition-is = ap Credential.partition parsed-credential
 
-  pub in-four : c .partition < 4
+  pub in-four : c .partition < partitionCount
   in-four = let h = low-partition (fields f) (clear .0) in omega (arith, partition-is)
 
-  pub memory-is : cond (c .slot under 3) (c .partition) 4 ≡ memoryIndex (fields f .cred)
-  unfolding memoryIndex
-  memory-is = ap (λ (e : Credential). cond (e .slot under 3) (e .partition) 4) parsed-credential
+  pub memory-is : memoryIndex c ≡ memoryIndex (fields f .cred)
+  memory-is = ap memoryIndex parsed-credential
 
-  pub in-five : cond (c .slot under 3) (c .partition) 4 < 5
+  pub in-five : memoryIndex c < memoryCount
   in-five = let h = low-memory (fields f) (clear .0) in omega (arith, memory-is)
 
 -- ---- the parts

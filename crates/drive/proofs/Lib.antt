@@ -1,6 +1,5 @@
 -- Laws of the rules that the code's proofs use; then the customer's demands 1 and 3 and the customer's story over the
 -- code's own contracts.
-mod Turned
 mod Memories
 mod Tables
 pub mod Frames

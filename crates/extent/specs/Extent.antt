@@ -1,29 +1,19 @@
 -- Document 01, operation 2: "a write lends on only the object's own part of the medium". What a callee that was lent a
 -- part left there, said of the whole medium.
-use mathlib.Core.Path.{_≡_, sym, ap, _∙_}
-use mathlib.Core.Bool.{Bool, false, not, _&&_}
-use mathlib.Core.List.{List, _++_, append-assoc, append-nil}
-use Prim.Native.Nat.{ℕ, _+_, _-_, _≤_, _<_}
-use native.Mathlib.Decide.{decLt}
+use mathlib.Core.Path.{_≡_, refl, sym, ap, _∙_}
+use mathlib.Core.Bool.{Bool, true, false, cond}
+use mathlib.Core.List.{List, _++_, append-assoc}
+use Prim.Native.Nat.{ℕ, _+_, _-_, _≤_}
 use native.Mathlib.Omega.{arith}
-use lib.ListN.{length, take, drop, length-drop, take-append-drop, drop-of-length-le}
-use lib.Seq.{take-take, drop-drop, length-take-le, take-add, drop-append-le, take-all}
+use lib.ListN.{length, take, drop, length-drop, take-append-drop}
+use lib.Seq.{take-take, drop-drop, length-take-le, take-add, drop-append-le}
 use lib.Dec.{leb}
-use borrow.Author.Tests.{le-leb, lt-leb, leb-true, not-false}
-use Rattle.lemmas.specs.Tests.{and-l, and-r}
+use borrow.Author.Tests.{leb-true}
 use Rattle.lemmas.specs.Lists.{splice}
-
--- ys is what was lent, from place `at` on, with d over its first bytes
-pub splice-tail : (m : List ℕ) (at : ℕ) (d ys : List ℕ) → at + length d ≤ length m
-    → ys ≡ d ++ drop (length d) (take (length m - at) (drop at m))
-    → take at m ++ (ys ++ drop (length m - at) (drop at m)) ≡ splice m at d
-unfolding splice
-splice-tail m at d ys h e =
-    let long : length (drop at m) ≤ length m - at = simp length-drop (omega arith) in
-    rw (e, take-all (length m - at) (drop at m) long, drop-of-length-le (drop at m) long, append-nil, drop-drop)
+use Rattle.octets.specs.Numbers.{bytesPut}
 
 -- the k elements from a on, with b at off in them: the whole with b at a + off
-pub splice-part : (s : List ℕ) (a k off : ℕ) (b : List ℕ) → a + k ≤ length s → off + length b ≤ k
+splice-part : (s : List ℕ) (a k off : ℕ) (b : List ℕ) → a + k ≤ length s → off + length b ≤ k
     → take a s ++ (splice (take k (drop a s)) off b ++ drop k (drop a s)) ≡ splice s (a + off) b
 unfolding splice
 splice-part s a k off b fits within =
@@ -52,15 +42,17 @@ pub splice-all : (s : List ℕ) (a k : ℕ) (b : List ℕ) → length b ≡ k
 unfolding splice
 splice-all s a k b e = rw (drop-drop, e)
 
--- ---- the test as the code makes it, and what two tests that passed tell
-pub inside-left : (at n all : ℕ) → at ≤ all → leb n (all - at) ≡ leb (at + n) all
-inside-left at n all h = go (decLt all (at + n))
+-- b put into the k elements from a on at off, where it fits there
+pub put-part : (s : List ℕ) (a k off : ℕ) (b : List ℕ) → a + k ≤ length s
+    → take a s ++ (bytesPut (take k (drop a s)) off b ++ drop k (drop a s))
+    ≡ cond (leb (off + length b) k) (splice s (a + off) b) s
+put-part s a k off b fits = rw long (go (leb (off + length b) k) refl)
   where
-    go : Dec (all < at + n) → leb n (all - at) ≡ leb (at + n) all
-    go (yes l) = lt-leb n (all - at) (omega arith) ∙ sym (lt-leb (at + n) all l)
-    go (no l) = le-leb n (all - at) (omega arith) ∙ sym (le-leb (at + n) all (omega arith))
+    long : length (take k (drop a s)) ≡ k
+    long = length-take-le k (drop a s) (omega (arith, length-drop a s))
 
-pub both-inside : (a b c d : ℕ) (r s : Bool) → r ≡ leb a b → s ≡ leb c d → not (r && s) ≡ false → (a ≤ b) × (c ≤ d)
-both-inside a b c d r s e f h =
-    let t = not-false (r && s) h in
-    (leb-true a b (sym e ∙ and-l r s t), leb-true c d (sym f ∙ and-r r s t))
+    go : (t : Bool) → leb (off + length b) k ≡ t
+        → take a s ++ (cond t (splice (take k (drop a s)) off b) (take k (drop a s)) ++ drop k (drop a s))
+        ≡ cond t (splice s (a + off) b) s
+    go true e = splice-part s a k off b fits (leb-true (off + length b) k e)
+    go false e = rw (take-append-drop k (drop a s)) (take-append-drop a s)

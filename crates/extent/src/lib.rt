@@ -2,29 +2,11 @@
 // on only the object's own part of the medium": what copies and clears is handed that part alone. Where the places
 // named do not lie inside what is lent, nothing changes.
 ghost use mathlib.Core.Path.{_≡_};
-ghost use mathlib.Core.Bool.{Bool, _&&_, cond};
-ghost use Prim.Native.Nat.{ℕ, _+_, _≤_};
+ghost use mathlib.Core.Bool.{_&&_, cond};
+ghost use Prim.Native.Nat.{_+_};
 ghost use lib.ListN.{length, replicate};
 ghost use lib.Dec.{leb};
 ghost use Rattle.lemmas.specs.Lists.{part, splice};
-
-// Whether `count` elements from `at` on lie inside `all`. Compares differences: at + count could pass 64 bits.
-fn is_inside(at: usize, count: usize, all: usize) -> bool
-    ensures { λ r. ⌜ r ≡ leb (at + count) all ⌝ }
-{
-    if all < at {
-        return false;
-    }
-    count <= all - at
-}
-
-// The bytes go over those from `at` on.
-fn put(space: &mut [u8], at: usize, bytes: &[u8])
-    requires { ⌜ at + length (now bytes) ≤ length (now space) ⌝ }
-    ensures { λ _. ⌜ now (space .exit) ≡ splice (now (space .entry)) at (now (bytes .entry)) ⌝ }
-{
-    bytes::copy(bytes, &mut space[at..]);
-}
 
 // Operation 2: the bytes replace those from the offset on of the extent of `size` bytes from `start` on.
 pub fn write_extent(medium: &mut [u8], start: usize, size: usize, offset: usize, bytes: &[u8])
@@ -33,11 +15,10 @@ pub fn write_extent(medium: &mut [u8], start: usize, size: usize, offset: usize,
         (splice (now (medium .entry)) (start + offset) (now (bytes .entry)))
         (now (medium .entry)) ⌝ }
 {
-    let fits = is_inside(start, size, medium.len()) & is_inside(offset, bytes.len(), size);
-    if !fits {
+    if !octets::fits(medium.len(), start, size) {
         return;
     }
-    put(&mut medium[start..start + size], offset, bytes);
+    octets::copy_to(&mut medium[start..start + size], offset, bytes);
 }
 
 // Format: every byte becomes 0.
@@ -58,8 +39,8 @@ pub fn clear_extent(medium: &mut [u8], start: usize, size: usize)
         (splice (now (medium .entry)) start (replicate size 0))
         (now (medium .entry)) ⌝ }
 {
-    let fits = is_inside(start, size, medium.len());
-    if !fits {
+    let inside = octets::fits(medium.len(), start, size);
+    if !inside {
         return;
     }
     clear_all(&mut medium[start..start + size]);
@@ -72,9 +53,8 @@ pub fn read_extent(medium: &[u8], start: usize, count: usize, space: &mut [u8], 
         (splice (now (space .entry)) at (part (now (medium .entry)) start count))
         (now (space .entry)) ⌝ }
 {
-    let fits = is_inside(start, count, medium.len()) & is_inside(at, count, space.len());
-    if !fits {
+    if !octets::fits(medium.len(), start, count) {
         return;
     }
-    put(space, at, &medium[start..start + count]);
+    octets::copy_to(space, at, &medium[start..start + count]);
 }

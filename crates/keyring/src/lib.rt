@@ -1,16 +1,39 @@
-// The drive's keys in one lent array of 462 bytes: key j stands in the 32 bytes from 32 * j on, and byte 448 + j, not 0,
-// says that it was set. Keys 0 to 3 are the four partitions' working key 0 (document 01's black), 4 to 7 their working
-// key 1 (gold), 8 to 11 the partition keys, 12 the drive key, 13 the master key; 14 is no key.
+// The drive's keys in one lent array of bytes: first the keys, one after the other, then a byte for each key that says, not
+// 0, that it was set. The keys are the four partitions' working keys 0 (document 01's black), their working keys 1 (gold),
+// their partition keys, the drive key and the master key.
 ghost use mathlib.Core.Path.{_≡_};
 ghost use Prim.Native.Nat.{_≤_};
-ghost use Rattle.keyring.specs.Keys.{isSet, indexAmongFour, keyIndex, targetIndex, keyStored, formattedKeys};
+ghost use Rattle.keyring.specs.Keys.{partitionKeysFrom, isSet, indexAmongFour, keyIndex, targetIndex, keyStored, formattedKeys};
+
+// Places of keys, as in specs/Keys.antt.
+pub const PARTITIONS: usize = 4;
+
+const WORKING0: usize = 0;
+
+const WORKING1: usize = WORKING0 + PARTITIONS;
+
+const PARTITION_KEYS: usize = WORKING1 + PARTITIONS;
+
+const DRIVE_KEY: usize = PARTITION_KEYS + PARTITIONS;
+
+const MASTER_KEY: usize = DRIVE_KEY + 1;
+
+// How many keys there are; as a place it is no key's.
+const KEY_COUNT: usize = MASTER_KEY + 1;
+
+// How many bytes a key has, from where on those stand that say which keys are set, and how many all are.
+pub const KEY: usize = 32;
+
+const FLAGS: usize = KEY * KEY_COUNT;
+
+pub const KEYS: usize = FLAGS + KEY_COUNT;
 
 // Partition `p`'s key among the four from a place on, none past the four.
 fn index_among_four(first: usize, p: usize) -> usize
-    requires { ⌜ first ≤ 8 ⌝ }
+    requires { ⌜ first ≤ partitionKeysFrom ⌝ }
     ensures { λ r. ⌜ r ≡ indexAmongFour first p ⌝ }
 {
-    if p < 4 { first + p } else { 14 }
+    if p < PARTITIONS { first + p } else { KEY_COUNT }
 }
 
 // The key that a slot names, as partition `p` has it.
@@ -18,12 +41,12 @@ pub fn key_index(slot: u8, p: usize) -> usize
     ensures { λ r. ⌜ r ≡ keyIndex slot p ⌝ }
 {
     match slot {
-        0 => index_among_four(0, p),
-        1 => index_among_four(4, p),
-        2 => index_among_four(8, p),
-        3 => 12,
-        4 => 13,
-        _ => 14,
+        0 => index_among_four(WORKING0, p),
+        1 => index_among_four(WORKING1, p),
+        2 => index_among_four(PARTITION_KEYS, p),
+        3 => DRIVE_KEY,
+        4 => MASTER_KEY,
+        _ => KEY_COUNT,
     }
 }
 
@@ -33,38 +56,38 @@ fn target_index(slot: u8, p: usize, a: usize) -> usize
     ensures { λ r. ⌜ r ≡ targetIndex slot p a ⌝ }
 {
     if slot == 4 {
-        return 12;
+        return DRIVE_KEY;
     }
     if slot == 3 {
-        return index_among_four(8, a);
+        return index_among_four(PARTITION_KEYS, a);
     }
     if a == 0 {
-        return index_among_four(0, p);
+        return index_among_four(WORKING0, p);
     }
-    index_among_four(4, p)
+    index_among_four(WORKING1, p)
 }
 
 // Whether key `j` was ever set; false where there is none.
 pub fn is_set(keys: &[u8], j: usize) -> bool
     ensures { λ r. ⌜ r ≡ isSet (now (keys .entry)) j ⌝ }
 {
-    let there = (keys.len() == 462) & (j < 14);
+    let there = (keys.len() == KEYS) & (j < KEY_COUNT);
     if !there {
         return false;
     }
-    keys[448 + j] != 0
+    keys[FLAGS + j] != 0
 }
 
 // Key `j` becomes `new`. Where there is none, or a length does not fit, nothing is written.
 fn store_at(keys: &mut [u8], j: usize, new: &[u8])
     ensures { λ _. ⌜ now (keys .exit) ≡ keyStored j (now (new .entry)) (now (keys .entry)) ⌝ }
 {
-    let fits = (j < 14) & (keys.len() == 462) & (new.len() == 32);
+    let fits = (j < KEY_COUNT) & (keys.len() == KEYS) & (new.len() == KEY);
     if !fits {
         return;
     }
-    octets::copy_to(keys, 32 * j, new);
-    keys[448 + j] = 1;
+    octets::copy_to(keys, KEY * j, new);
+    keys[FLAGS + j] = 1;
 }
 
 // Operation 7 under a slot's key: the key that it sets becomes `new`.
@@ -75,15 +98,15 @@ pub fn store_key(keys: &mut [u8], slot: u8, p: usize, a: usize, new: &[u8])
 }
 
 // A fresh drive's keys: master key and drive key are set, no other is. Where either is not 32 bytes, none is.
-pub fn new_keys(master: &[u8], drive: &[u8]) -> [u8; 462]
+pub fn new_keys(master: &[u8], drive: &[u8]) -> [u8; KEYS]
     ensures { λ r. ⌜ r ≡ formattedKeys (now (master .entry)) (now (drive .entry)) ⌝ }
 {
-    let mut keys = [0u8; 462];
-    let fits = (master.len() == 32) & (drive.len() == 32);
+    let mut keys = [0u8; KEYS];
+    let fits = (master.len() == KEY) & (drive.len() == KEY);
     if !fits {
         return keys;
     }
-    store_at(&mut keys, 12, drive);
-    store_at(&mut keys, 13, master);
+    store_at(&mut keys, DRIVE_KEY, drive);
+    store_at(&mut keys, MASTER_KEY, master);
     keys
 }

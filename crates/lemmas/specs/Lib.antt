@@ -10,3 +10,6 @@ pub mod Bits
 pub mod Layout
 pub mod Same
 pub mod Loops
+pub mod Fronts
+pub mod Zips
+pub mod Chunks

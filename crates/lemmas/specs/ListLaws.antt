@@ -7,7 +7,7 @@ use mathlib.Core.List.{List, [], _∷_, _++_, map, List·Memᴰ, List·Memᴰ·h
 use Prim.Native.Nat.{ℕ, zero, suc, _≤_, _<_}
 use native.Mathlib.Nat.{not-suc-le-zero, le-of-suc-le-suc}
 use native.Mathlib.Omega.{arith}
-use lib.ListN.{length, getD, set}
+use lib.ListN.{length, getD, set, length-map}
 use borrow.Author.Tests.{eqb-true, eqb-false}
 use Rattle.lemmas.specs.Tests.{_is_, _isnt_, and-l, and-r, both, or-intro-l, or-intro-r}
 use Rattle.lemmas.specs.Lists.{every, some?, pairs, keep, update, find, change, missing}
@@ -26,13 +26,6 @@ module _ {A : Type 0} where
   update-map f g k e i [] = refl
   update-map f g k e zero (x ∷ xs) = ap (λ y. y ∷ map f xs) (e x)
   update-map f g k e (suc i) (x ∷ xs) = ap (λ ys. f x ∷ ys) (update-map f g k e i xs)
-
-  pub update-map-same : {B : Type 0} (f : A → B) (g : A → A) → ((a : A) → f (g a) ≡ f a) → (i : ℕ) (l : List A)
-      → map f (update i g l) ≡ map f l
-  unfolding update
-  update-map-same f g e i [] = refl
-  update-map-same f g e zero (x ∷ xs) = ap (λ y. y ∷ map f xs) (e x)
-  update-map-same f g e (suc i) (x ∷ xs) = ap (λ ys. f x ∷ ys) (update-map-same f g e i xs)
 
   pub map-append : {B : Type 0} (f : A → B) (l r : List A) → map f (l ++ r) ≡ map f l ++ map f r
   map-append f [] r = refl
@@ -102,19 +95,27 @@ module _ {A : Type 0} where
       go true e ih = both e ih
       go false e ih = ih
 
+  pub every-mapped : {B : Type 0} (t : B → Bool) (f : A → B) (l : List A)
+      → every (λ (a : A). t (f a)) l ≡ every t (map f l)
+  unfolding every
+  every-mapped t f [] = refl
+  every-mapped t f (x ∷ xs) = ap (λ b. t (f x) && b) (every-mapped t f xs)
+
   pub every-map : {B : Type 0} (t : B → Bool) (f : A → B) (l : List A) → every (λ (a : A). t (f a)) l ≡ true
       → every t (map f l) ≡ true
-  unfolding every
-  every-map t f [] h = refl
-  every-map t f (x ∷ xs) h = both (and-l (t (f x)) (every (λ (a : A). t (f a)) xs) h)
-      (every-map t f xs (and-r (t (f x)) (every (λ (a : A). t (f a)) xs) h))
+  every-map t f l h = sym (every-mapped t f l) ∙ h
 
   pub every-unmap : {B : Type 0} (t : B → Bool) (f : A → B) (l : List A) → every t (map f l) ≡ true
       → every (λ (a : A). t (f a)) l ≡ true
+  every-unmap t f l h = every-mapped t f l ∙ h
+
+  pub every-set : (t : A → Bool) (l : List A) (i : ℕ) (x : A) → t x ≡ true → every t l ≡ true
+      → every t (set l i x) ≡ true
   unfolding every
-  every-unmap t f [] h = refl
-  every-unmap t f (x ∷ xs) h = both (and-l (t (f x)) (every t (map f xs)) h)
-      (every-unmap t f xs (and-r (t (f x)) (every t (map f xs)) h))
+  every-set t [] i x e h = h
+  every-set t (y ∷ l) zero x e h = both e (and-r (t y) (every t l) h)
+  every-set t (y ∷ l) (suc i) x e h =
+      both (and-l (t y) (every t l) h) (every-set t l i x e (and-r (t y) (every t l) h))
 
   pub every-imp : (t u : A → Bool) → ((a : A) → t a ≡ true → u a ≡ true) → (l : List A) → every t l ≡ true
       → every u l ≡ true
@@ -277,6 +278,10 @@ module _ {A : Type 0} where
       go true ih k = absurd (false≢true k)
       go false ih k = ih k
 
+  pub length-change : (number : A → ℕ) (n : ℕ) (g : A → A) (l : List A) → length (change number n g l) ≡ length l
+  unfolding change
+  length-change number n g l = length-map l (λ (x : A). cond (number x is n) (g x) x)
+
   pub change-map : {B : Type 0} (f : A → B) (number : B → ℕ) (n : ℕ) (g : A → A) (k : B → B)
       → ((a : A) → f (g a) ≡ k (f a)) → (l : List A)
       → map f (change (λ (a : A). number (f a)) n g l) ≡ change number n k (map f l)
@@ -352,6 +357,24 @@ module _ {A : Type 0} where
       go false true e k ih h = or-intro-r (t x) (some? t (keep u xs)) (ih h)
       go false false e k ih h = ih h
 
+  pub some-same : (t u : A → Bool) → ((a : A) → t a ≡ u a) → (l : List A) → some? t l ≡ some? u l
+  unfolding some?
+  some-same t u e [] = refl
+  some-same t u e (x ∷ xs) = λ i. e x i || some-same t u e xs i
+
+  pub some-mapped : {B : Type 0} (t : B → Bool) (f : A → B) (l : List A)
+      → some? (λ (a : A). t (f a)) l ≡ some? t (map f l)
+  unfolding some?
+  some-mapped t f [] = refl
+  some-mapped t f (x ∷ xs) = ap (λ b. t (f x) || b) (some-mapped t f xs)
+
+  -- a store is a change of one element
+  pub set-as-update : (l : List A) (i : ℕ) (f : A → A) (d x : A) → x ≡ f (getD l i d) → set l i x ≡ update i f l
+  unfolding update
+  set-as-update [] i f d x e = refl
+  set-as-update (y ∷ l) zero f d x e = ap (λ z. z ∷ l) e
+  set-as-update (y ∷ l) (suc i) f d x e = ap (λ zs. y ∷ zs) (set-as-update l i f d x e)
+
   -- a store in a list is a change of its image
   pub set-update : {B : Type 0} (f : A → B) (l : List A) (i : ℕ) (x : A) (b : B) → f x ≡ b
       → map f (set l i x) ≡ update i (λ (old : B). b) (map f l)
@@ -359,10 +382,3 @@ module _ {A : Type 0} where
   set-update f [] i x b e = refl
   set-update f (y ∷ l) zero x b e = ap (λ z. z ∷ map f l) e
   set-update f (y ∷ l) (suc i) x b e = ap (λ zs. f y ∷ zs) (set-update f l i x b e)
-
-  -- past the end nothing changes
-  pub update-past : (i : ℕ) (f : A → A) (l : List A) → length l ≤ i → update i f l ≡ l
-  unfolding update
-  update-past i f [] h = refl
-  update-past zero f (x ∷ xs) h = absurd (not-suc-le-zero h)
-  update-past (suc i) f (x ∷ xs) h = ap (λ ys. x ∷ ys) (update-past i f xs (le-of-suc-le-suc h))

@@ -1,6 +1,19 @@
 -- Laws for loops: what one element more at the end of `take i l`, which a turn adds, does to tests, choices and maps.
 use mathlib.Core.Path.{_≡_, refl, sym, ap, _∙_}
-use mathlib.Core.Bool.{Bool, true, false, not, _&&_, _||_, cond, true≢false}
+use mathlib.Core.Bool.{
+  Bool,
+  true,
+  false,
+  not,
+  _&&_,
+  _||_,
+  cond,
+  true≢false,
+  and-true,
+  and-assoc,
+  or-false,
+  or-assoc,
+}
 use mathlib.Core.Option.{none, some}
 use mathlib.Core.List.{List, [], _∷_, _++_, map, append-nil}
 use Prim.Native.Nat.{ℕ, zero, suc, _+_, _<_, min}
@@ -13,22 +26,6 @@ use lib.Seq.{take-suc, take-suc-set, take-all}
 use Rattle.lemmas.specs.Tests.{_is_}
 use Rattle.lemmas.specs.Lists.{every, some?, pairs, keep, find}
 use Rattle.lemmas.specs.ListLaws.{map-append}
-
-or-false : (b : Bool) → (b || false) ≡ b
-or-false true = refl
-or-false false = refl
-
-and-true : (b : Bool) → (b && true) ≡ b
-and-true true = refl
-and-true false = refl
-
-or-assoc : (a b c : Bool) → (a || b || c) ≡ (a || (b || c))
-or-assoc true b c = refl
-or-assoc false b c = refl
-
-and-assoc : (a b c : Bool) → (a && b && c) ≡ (a && (b && c))
-and-assoc true b c = refl
-and-assoc false b c = refl
 
 and-swap : (a b c d : Bool) → (a && b && (c && d)) ≡ (a && c && (b && d))
 and-swap true true c d = refl
@@ -94,7 +91,7 @@ module _ {A : Type 0} where
   pub take-more : (l : List A) (i : ℕ) (d : A) → i < length l → take (i + 1) l ≡ take i l ++ (getD l i d ∷ [])
   take-more l i d h = rw add-one (take-suc l i d h)
 
-  pub take-more-set : (l : List A) (i : ℕ) (a : A) → i < length l → take (i + 1) (set l i a) ≡ take i l ++ (a ∷ [])
+  take-more-set : (l : List A) (i : ℕ) (a : A) → i < length l → take (i + 1) (set l i a) ≡ take i l ++ (a ∷ [])
   take-more-set l i a h = rw add-one (take-suc-set l i a h)
 
   module _ (t : A → Bool) (l : List A) (i : ℕ) (d : A) (h : i < length l) where
@@ -108,16 +105,15 @@ module _ {A : Type 0} where
       → pairs t (take (i + 1) l) ≡ pairs t (take i l) && every (λ (y : A). t y (getD l i d)) (take i l)
   pairs-take t l i d h = rw (take-more l i d h) (pairs-more t (take i l) (getD l i d))
 
-  -- a loop that keeps, in rs, what passes of es: one turn, by the test
-  module _ (t : A → Bool) (es rs : List A) (i k : ℕ) (d : A) (h : i < length es)
-      (e : take k rs ≡ keep t (take i es)) where
-    pub keep-took : k < length rs → t (getD es i d) ≡ true
-        → take (k + 1) (set rs k (getD es i d)) ≡ keep t (take (i + 1) es)
-    keep-took m p =
-        rw (take-more es i d h, keep-more t (take i es) (getD es i d), p, take-more-set rs k (getD es i d) m, e)
+  module _ (t : A → Bool) (l : List A) (i : ℕ) (d : A) (h : i < length l) where
+    keep-take : keep t (take (i + 1) l) ≡ keep t (take i l) ++ cond (t (getD l i d)) (getD l i d ∷ []) []
+    keep-take = rw (take-more l i d h) (keep-more t (take i l) (getD l i d))
 
-    pub keep-passed : t (getD es i d) ≡ false → take k rs ≡ keep t (take (i + 1) es)
-    keep-passed p = rw (take-more es i d h, keep-more t (take i es) (getD es i d), p, e, append-nil)
+    pub keep-next : t (getD l i d) ≡ true → keep t (take (i + 1) l) ≡ keep t (take i l) ++ (getD l i d ∷ [])
+    keep-next p = keep-take ∙ rw p refl
+
+    pub keep-same : t (getD l i d) ≡ false → keep t (take (i + 1) l) ≡ keep t (take i l)
+    keep-same p = keep-take ∙ rw p (append-nil (keep t (take i l)))
 
   -- a search through the first n of l that stands at i
   some-none : (x : A) → some x ≡ none → ⊥
@@ -166,9 +162,12 @@ module _ {A : Type 0} where
       go true k ih = ap (λ ys. x ∷ ys) (ih k)
       go false k ih = absurd (true≢false k)
 
--- ---- a loop that maps, in rs, the elements of l: one turn
+-- ---- a loop that maps the elements of l, into rs: one turn
+module _ {A B : Type 0} (f : A → B) (l : List A) (i : ℕ) (d : A) (h : i < length l) where
+  pub map-take : map f (take (i + 1) l) ≡ map f (take i l) ++ (f (getD l i d) ∷ [])
+  map-take = rw (take-more l i d h) (map-append f (take i l) (getD l i d ∷ []))
+
 pub map-took : {A B : Type 0} (f : A → B) (l : List A) (rs : List B) (i : ℕ) (d : A) (x : B)
     → i < length l → i < length rs
     → take i rs ≡ map f (take i l) → x ≡ f (getD l i d) → take (i + 1) (set rs i x) ≡ map f (take (i + 1) l)
-map-took f l rs i d x h k e p =
-    rw (take-more-set rs i x k, take-more l i d h, map-append f (take i l) (getD l i d ∷ []), e, p)
+map-took f l rs i d x h k e p = rw (take-more-set rs i x k, map-take f l i d h, e, p)

@@ -1,6 +1,6 @@
 -- Laws of `same`, the test that two lists of numbers are one.
 use mathlib.Core.Path.{_≡_, refl, sym, ap}
-use mathlib.Core.Bool.{Bool, true, false, _&&_, false≢true}
+use mathlib.Core.Bool.{true, false, _&&_, false≢true, and-true, and-false, and-assoc}
 use mathlib.Core.List.{List, [], _∷_, _++_}
 use Prim.Native.Nat.{ℕ, suc}
 use native.Mathlib.Nat.{suc-ne-zero}
@@ -10,19 +10,6 @@ use lib.ListN.{length}
 use borrow.Author.Tests.{eq-eqb, eqb-true}
 use Rattle.lemmas.specs.Tests.{and-l, and-r}
 use Rattle.lemmas.specs.Lists.{same}
-
--- and, with what it computes to
-and-none : (s : Bool) → (s && false) ≡ false
-and-none true = refl
-and-none false = refl
-
-and-all : (s : Bool) → (s && true) ≡ s
-and-all true = refl
-and-all false = refl
-
-and-assoc : (s t u : Bool) → (s && (t && u)) ≡ ((s && t) && u)
-and-assoc true t u = refl
-and-assoc false t u = refl
 
 -- a list is the same as itself, and as no other
 pub same-refl : (a : List ℕ) → same a a ≡ true
@@ -46,14 +33,14 @@ unfolding same
 same-lengths [] [] h = absurd (h refl)
 same-lengths [] (y ∷ ys) h = refl
 same-lengths (x ∷ xs) [] h = refl
-same-lengths (x ∷ xs) (y ∷ ys) h = rw (same-lengths xs ys (λ e. h (ap suc e))) (and-none (eqb x y))
+same-lengths (x ∷ xs) (y ∷ ys) h = rw (same-lengths xs ys (λ e. h (ap suc e))) (and-false (eqb x y))
 
 -- one more number on each
 pub same-snoc : (a b : List ℕ) (x y : ℕ) → length a ≡ length b
     → same (a ++ (x ∷ [])) (b ++ (y ∷ [])) ≡ (same a b && eqb x y)
 unfolding same
-same-snoc [] [] x y h = and-all (eqb x y)
+same-snoc [] [] x y h = and-true (eqb x y)
 same-snoc [] (b ∷ bs) x y h = absurd (suc-ne-zero (length bs) (sym h))
 same-snoc (a ∷ ys) [] x y h = absurd (suc-ne-zero (length ys) h)
 same-snoc (a ∷ ys) (b ∷ bs) x y h =
-    rw (same-snoc ys bs x y (omega (arith, h))) (and-assoc (eqb a b) (same ys bs) (eqb x y))
+    rw (same-snoc ys bs x y (omega (arith, h))) (sym (and-assoc (eqb a b) (same ys bs) (eqb x y)))

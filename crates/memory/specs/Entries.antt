@@ -1,141 +1,112 @@
--- Laws of `entries`: what a length, a place, a store and a part of the four lists are of the entries.
+-- Laws of `entriesIn`: what a length, a place, a store and a part of the four lists are of the entries.
 use mathlib.Core.Path.{_≡_, refl, sym, ap, _∙_}
 use mathlib.Core.Bool.{false, not}
-use mathlib.Core.List.{List, [], _∷_, _++_}
-use Prim.Native.Nat.{ℕ, zero, suc, _-_, _≤_, _<_}
-use native.Mathlib.Nat.{not-suc-le-zero, le-of-suc-le-suc}
+use mathlib.Core.List.{List, _++_, map, zipWith}
+use Prim.Native.Nat.{ℕ, _-_, _≤_, _<_, min}
 use native.Mathlib.Omega.{arith}
 use lib.Dec.{ltb}
-use lib.ListN.{length, getD, take, drop, set, length-take, length-drop}
-use lib.Seq.{take-all}
+use lib.ListN.{length, getD, take, drop, set, length-take, length-drop, length-map, List·getD-map}
+use lib.Seq.{ext-getD, getD-take, take-all}
 use Rattle.lemmas.specs.Lists.{some?, keep}
-use Rattle.lemmas.specs.ListLaws.{length-keep}
+use Rattle.lemmas.specs.ListLaws.{length-keep, some-mapped, some-same}
+use Rattle.lemmas.specs.Loops.{keep-all}
+use Rattle.lemmas.specs.Zips.{zip-length, zip-at, zip-set, zip-take, zip-drop, zip-append}
 use Rattle.rules.specs.declared.Entry.{Entry}
-use Rattle.rules.specs.Drive.{lives}
-use Rattle.memory.specs.Memory.{entriesIn, fewest, noEntry, outlived, keep-living, Purged}
+use Rattle.rules.specs.Drive.{timeWindow, lives}
+use Rattle.memory.specs.Memory.{entryOf, noEntry, given, entriesIn, fewest, outlived, Purged}
 
--- ---- lists of any lengths
-pub entries-count : (s h t n : List ℕ)
-    → length (entriesIn s h t n) ≡ fewest (length s) (length h) (length t) (length n)
-unfolding entriesIn
-entries-count [] h t n = omega arith
-entries-count (a ∷ s) [] t n = omega arith
-entries-count (a ∷ s) (b ∷ h) [] n = omega arith
-entries-count (a ∷ s) (b ∷ h) (c ∷ t) [] = omega arith
-entries-count (a ∷ s) (b ∷ h) (c ∷ t) (d ∷ n) = omega (arith, entries-count s h t n)
+module _ (s h t n : List ℕ) where
+  -- the entries so far: without counts, without times
+  abbrev untimed : List (ℕ → ℕ → Entry)
+  untimed = zipWith entryOf s h
 
-pub entries-at : (s h t n : List ℕ) (i : ℕ) → i < length (entriesIn s h t n)
-    → getD (entriesIn s h t n) i noEntry
-    ≡ record { slot = getD s i 0; holder = getD h i 0; time = getD t i 0; count = getD n i 0 }
-unfolding entriesIn
-entries-at [] h t n i q = absurd (not-suc-le-zero q)
-entries-at (a ∷ s) [] t n i q = absurd (not-suc-le-zero q)
-entries-at (a ∷ s) (b ∷ h) [] n i q = absurd (not-suc-le-zero q)
-entries-at (a ∷ s) (b ∷ h) (c ∷ t) [] i q = absurd (not-suc-le-zero q)
-entries-at (a ∷ s) (b ∷ h) (c ∷ t) (d ∷ n) zero q = refl
-entries-at (a ∷ s) (b ∷ h) (c ∷ t) (d ∷ n) (suc i) q = entries-at s h t n i (le-of-suc-le-suc q)
+  abbrev uncounted : List (ℕ → Entry)
+  uncounted = given untimed t
 
-pub entries-set : (s h t n : List ℕ) (i a b c d : ℕ)
-    → entriesIn (set s i a) (set h i b) (set t i c) (set n i d)
-    ≡ set (entriesIn s h t n) i (record { slot = a; holder = b; time = c; count = d })
-unfolding entriesIn
-entries-set [] h t n i a b c d = refl
-entries-set (w ∷ s) [] t n zero a b c d = refl
-entries-set (w ∷ s) [] t n (suc i) a b c d = refl
-entries-set (w ∷ s) (x ∷ h) [] n zero a b c d = refl
-entries-set (w ∷ s) (x ∷ h) [] n (suc i) a b c d = refl
-entries-set (w ∷ s) (x ∷ h) (y ∷ t) [] zero a b c d = refl
-entries-set (w ∷ s) (x ∷ h) (y ∷ t) [] (suc i) a b c d = refl
-entries-set (w ∷ s) (x ∷ h) (y ∷ t) (z ∷ n) zero a b c d = refl
-entries-set (w ∷ s) (x ∷ h) (y ∷ t) (z ∷ n) (suc i) a b c d =
-    ap (λ (l : List Entry). record { slot = w; holder = x; time = y; count = z } ∷ l) (entries-set s h t n i a b c d)
+  untimed-count : length untimed ≡ min (length s) (length h)
+  untimed-count = zip-length entryOf s h
 
-pub entries-take : (k : ℕ) (s h t n : List ℕ)
-    → entriesIn (take k s) (take k h) (take k t) (take k n) ≡ take k (entriesIn s h t n)
-unfolding entriesIn
-entries-take zero s h t n = refl
-entries-take (suc k) [] h t n = refl
-entries-take (suc k) (a ∷ s) [] t n = refl
-entries-take (suc k) (a ∷ s) (b ∷ h) [] n = refl
-entries-take (suc k) (a ∷ s) (b ∷ h) (c ∷ t) [] = refl
-entries-take (suc k) (a ∷ s) (b ∷ h) (c ∷ t) (d ∷ n) =
-    ap (λ (l : List Entry). record { slot = a; holder = b; time = c; count = d } ∷ l) (entries-take k s h t n)
+  uncounted-count : length uncounted ≡ min (length untimed) (length t)
+  uncounted-count = zip-length (λ f x. f x) untimed t
 
--- no entry where one of the lists is empty
-no-holders : (s t n : List ℕ) → entriesIn s [] t n ≡ []
-unfolding entriesIn
-no-holders [] t n = refl
-no-holders (a ∷ s) t n = refl
+  pub entries-count : length (entriesIn s h t n) ≡ fewest (length s) (length h) (length t) (length n)
+  unfolding entriesIn
+  entries-count = omega (arith, zip-length (λ f x. f x) uncounted n, uncounted-count, untimed-count)
 
-no-times : (s h n : List ℕ) → entriesIn s h [] n ≡ []
-unfolding entriesIn
-no-times [] h n = refl
-no-times (a ∷ s) [] n = refl
-no-times (a ∷ s) (b ∷ h) n = refl
+  pub entries-at : (i : ℕ) → i < length (entriesIn s h t n)
+      → getD (entriesIn s h t n) i noEntry ≡ entryOf (getD s i 0) (getD h i 0) (getD t i 0) (getD n i 0)
+  unfolding entriesIn
+  entries-at i q =
+      let all = entries-count in
+      zip-at (λ f x. f x) uncounted n i (λ d. noEntry) 0 noEntry q
+      ∙ ap (λ f. f (getD n i 0))
+      (zip-at (λ f x. f x) untimed t i (λ c d. noEntry) 0 (λ d. noEntry) (omega (arith, uncounted-count, untimed-count)))
+      ∙ ap (λ f. f (getD t i 0) (getD n i 0)) (zip-at entryOf s h i 0 0 (λ c d. noEntry) (omega (arith, untimed-count)))
 
-no-counts : (s h t : List ℕ) → entriesIn s h t [] ≡ []
-unfolding entriesIn
-no-counts [] h t = refl
-no-counts (a ∷ s) [] t = refl
-no-counts (a ∷ s) (b ∷ h) [] = refl
-no-counts (a ∷ s) (b ∷ h) (c ∷ t) = refl
+  pub entries-set : (i a b c d : ℕ)
+      → entriesIn (set s i a) (set h i b) (set t i c) (set n i d) ≡ set (entriesIn s h t n) i (entryOf a b c d)
+  unfolding entriesIn
+  entries-set i a b c d =
+      ap (λ l. given (given l (set t i c)) (set n i d)) (zip-set entryOf s h i a b)
+      ∙ ap (λ l. given l (set n i d)) (zip-set (λ f x. f x) untimed t i (entryOf a b) c)
+      ∙ zip-set (λ f x. f x) uncounted n i (entryOf a b c) d
 
-pub entries-drop : (k : ℕ) (s h t n : List ℕ)
-    → entriesIn (drop k s) (drop k h) (drop k t) (drop k n) ≡ drop k (entriesIn s h t n)
-unfolding entriesIn
-entries-drop zero s h t n = refl
-entries-drop (suc k) [] h t n = refl
-entries-drop (suc k) (a ∷ s) [] t n = no-holders (drop k s) (drop (suc k) t) (drop (suc k) n)
-entries-drop (suc k) (a ∷ s) (b ∷ h) [] n = no-times (drop k s) (drop k h) (drop (suc k) n)
-entries-drop (suc k) (a ∷ s) (b ∷ h) (c ∷ t) [] = no-counts (drop k s) (drop k h) (drop k t)
-entries-drop (suc k) (a ∷ s) (b ∷ h) (c ∷ t) (d ∷ n) = entries-drop k s h t n
+  pub entries-take : (k : ℕ) → entriesIn (take k s) (take k h) (take k t) (take k n) ≡ take k (entriesIn s h t n)
+  unfolding entriesIn
+  entries-take k =
+      ap (λ l. given (given l (take k t)) (take k n)) (zip-take entryOf k s h)
+      ∙ ap (λ l. given l (take k n)) (zip-take (λ f x. f x) k untimed t) ∙ zip-take (λ f x. f x) k uncounted n
 
--- ---- four lists as long as each other
-pub entries-length : (s h t n : List ℕ) → length h ≡ length s → length t ≡ length s → length n ≡ length s
-    → length (entriesIn s h t n) ≡ length s
-entries-length s h t n eh et en = omega (arith, entries-count s h t n)
+  pub entries-drop : (k : ℕ) → entriesIn (drop k s) (drop k h) (drop k t) (drop k n) ≡ drop k (entriesIn s h t n)
+  unfolding entriesIn
+  entries-drop k =
+      ap (λ l. given (given l (drop k t)) (drop k n)) (zip-drop entryOf k s h)
+      ∙ ap (λ l. given l (drop k n)) (zip-drop (λ f x. f x) k untimed t) ∙ zip-drop (λ f x. f x) k uncounted n
 
-pub entries-append : (s h t n s2 h2 t2 n2 : List ℕ)
-    → length h ≡ length s → length t ≡ length s → length n ≡ length s
-    → entriesIn (s ++ s2) (h ++ h2) (t ++ t2) (n ++ n2) ≡ entriesIn s h t n ++ entriesIn s2 h2 t2 n2
-unfolding entriesIn
-entries-append [] [] [] [] s2 h2 t2 n2 eh et en = refl
-entries-append [] [] [] (d ∷ n) s2 h2 t2 n2 eh et en = absurd (omega arith)
-entries-append [] [] (c ∷ t) n s2 h2 t2 n2 eh et en = absurd (omega arith)
-entries-append [] (b ∷ h) t n s2 h2 t2 n2 eh et en = absurd (omega arith)
-entries-append (a ∷ s) [] t n s2 h2 t2 n2 eh et en = absurd (omega arith)
-entries-append (a ∷ s) (b ∷ h) [] n s2 h2 t2 n2 eh et en = absurd (omega arith)
-entries-append (a ∷ s) (b ∷ h) (c ∷ t) [] s2 h2 t2 n2 eh et en = absurd (omega arith)
-entries-append (a ∷ s) (b ∷ h) (c ∷ t) (d ∷ n) s2 h2 t2 n2 eh et en =
-    ap (λ (l : List Entry). record { slot = a; holder = b; time = c; count = d } ∷ l)
-    (entries-append s h t n s2 h2 t2 n2 (omega arith) (omega arith) (omega arith))
+  -- ---- four lists as long as each other
+  module _ (eh : length h ≡ length s) (et : length t ≡ length s) (en : length n ≡ length s) where
+    pub entries-length : length (entriesIn s h t n) ≡ length s
+    entries-length = omega (arith, entries-count)
 
--- ---- an outlived entry is seen by the times alone
-pub outlived-times : (mark : ℕ) (s h t n : List ℕ)
-    → some? (λ (e : Entry). not (lives mark e)) (entriesIn s h t n)
-    ≡ some? (λ (x : ℕ). ltb x (mark - 5000)) (take (length (entriesIn s h t n)) t)
-unfolding entriesIn some?
-outlived-times mark [] h t n = refl
-outlived-times mark (a ∷ s) [] t n = refl
-outlived-times mark (a ∷ s) (b ∷ h) [] n = refl
-outlived-times mark (a ∷ s) (b ∷ h) (c ∷ t) [] = refl
-outlived-times mark (a ∷ s) (b ∷ h) (c ∷ t) (d ∷ n) =
-    rw (outlived mark (record { slot = a; holder = b; time = c; count = d }), outlived-times mark s h t n)
+    pub entries-append : (s2 h2 t2 n2 : List ℕ)
+        → entriesIn (s ++ s2) (h ++ h2) (t ++ t2) (n ++ n2) ≡ entriesIn s h t n ++ entriesIn s2 h2 t2 n2
+    unfolding entriesIn
+    entries-append s2 h2 t2 n2 =
+        ap (λ l. given (given l (t ++ t2)) (n ++ n2)) (zip-append entryOf s s2 h h2 (sym eh))
+        ∙ ap (λ l. given l (n ++ n2))
+        (zip-append (λ f x. f x) untimed (zipWith entryOf s2 h2) t t2 (omega (arith, untimed-count)))
+        ∙ zip-append (λ f x. f x) uncounted (given (zipWith entryOf s2 h2) t2) n n2
+        (omega (arith, uncounted-count, untimed-count))
 
--- a memory with no outlived entry, by its times, is as a purge leaves it
-pub none-outlived : (mark : ℕ) (s h t n : List ℕ) (k : ℕ) → k ≡ length (entriesIn s h t n)
-    → some? (λ (x : ℕ). ltb x (mark - 5000)) (take k t) ≡ false → Purged mark s h t n s h t n k
-none-outlived mark s h t n k e f =
-    let all : keep (lives mark) (entriesIn s h t n) ≡ entriesIn s h t n
-    = keep-living mark (entriesIn s h t n) (outlived-times mark s h t n ∙ rw e at f) in
-    record {
-      count = rw all e;
-      front = take-all k (entriesIn s h t n) (omega arith) ∙ sym all;
-      slots = refl;
-      holders = refl;
-      times = refl;
-      counts = refl;
-    }
+  -- ---- the entries' times
+  entries-times : map Entry.time (entriesIn s h t n) ≡ take (length (entriesIn s h t n)) t
+  entries-times =
+      let all = entries-count in
+      let long = length-map (entriesIn s h t n) Entry.time in
+      ext-getD 0 (map Entry.time (entriesIn s h t n)) (take (length (entriesIn s h t n)) t)
+      (long ∙ sym (length-take (length (entriesIn s h t n)) t ∙ omega arith)) (λ i q.
+      let k : i < length (entriesIn s h t n) = omega arith in
+      List·getD-map Entry.time (entriesIn s h t n) i noEntry ∙ ap Entry.time (entries-at i k)
+      ∙ sym (getD-take (length (entriesIn s h t n)) t i 0 k))
+
+  -- a memory with no outlived entry, by its times, is as a purge leaves it
+  pub none-outlived : (mark k : ℕ) → k ≡ length (entriesIn s h t n)
+      → some? (λ (x : ℕ). ltb x (mark - timeWindow)) (take k t) ≡ false → Purged mark s h t n s h t n k
+  none-outlived mark k e f = record {
+    count = rw all e;
+    front = take-all k (entriesIn s h t n) (omega arith) ∙ sym all;
+    slots = refl;
+    holders = refl;
+    times = refl;
+    counts = refl;
+  }
+    where
+      all : keep (lives mark) (entriesIn s h t n) ≡ entriesIn s h t n
+      all = keep-all (lives mark) (entriesIn s h t n)
+          (some-same (λ (x : Entry). not (lives mark x)) (λ (x : Entry). ltb (x .time) (mark - timeWindow))
+          (outlived mark) (entriesIn s h t n)
+          ∙ some-mapped (λ (x : ℕ). ltb x (mark - timeWindow)) Entry.time (entriesIn s h t n)
+          ∙ ap (some? (λ (x : ℕ). ltb x (mark - timeWindow))) entries-times ∙ rw e at f)
 
 -- ---- a purge leaves each list as long as it was
 as-long : (r : ℕ) (x y : List ℕ) → r ≤ length x → r ≤ length y → drop r x ≡ drop r y → length x ≡ length y

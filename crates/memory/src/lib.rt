@@ -7,10 +7,20 @@ ghost use Prim.Native.Nat.{ℕ, _-_, _≤_};
 ghost use lib.Dec.{ltb};
 ghost use lib.ListN.{length, take};
 ghost use Rattle.lemmas.specs.Lists.{some?};
-ghost use Rattle.rules.specs.Drive.{sameEntry};
+ghost use Rattle.rules.specs.Drive.{timeWindow, sameEntry};
 ghost use Rattle.memory.specs.Memory.{entriesIn, fewest, Purged};
 use lemmas::smaller;
 use rules::Entry;
+
+// At most so many entries a memory, so many memories a drive, and so many places for entries all of them together.
+pub const MOST_ENTRIES: usize = 64;
+
+pub const MEMORIES: usize = 5;
+
+pub const PLACES: usize = MEMORIES * MOST_ENTRIES;
+
+// How far, in milliseconds, an entry's time may lie behind the mark.
+const TIME_WINDOW: u64 = 5000;
 
 // How many entries there are: the shortest of four lengths.
 fn shortest(a: usize, b: usize, c: usize, d: usize) -> usize
@@ -21,9 +31,13 @@ fn shortest(a: usize, b: usize, c: usize, d: usize) -> usize
 
 // The lowest time that is not outlived at a mark; T + 5,000 could pass 64 bits.
 fn floor_of(mark: u64) -> u64
-    ensures { λ r. ⌜ r ≡ mark - 5000 ⌝ }
+    ensures { λ r. ⌜ r ≡ mark - timeWindow ⌝ }
 {
-    if mark < 5000 { 0 } else { mark - 5000 }
+    if mark < TIME_WINDOW {
+        0
+    } else {
+        mark - TIME_WINDOW
+    }
 }
 
 // A quick pass over the first n times: true says that none is below the floor; false says nothing. It has no branch and
@@ -59,7 +73,7 @@ fn any_below(times: &[u64], n: usize, floor: u64) -> bool
 // Whether one of the first n times is outlived. Mostly none is, which the quick pass tells.
 fn stale(times: &[u64], n: usize, mark: u64) -> bool
     requires { ⌜ n ≤ length (now times) ⌝ }
-    ensures { λ r. ⌜ r ≡ some? (λ (t : ℕ). ltb t (mark - 5000)) (take n (now (times .entry))) ⌝ }
+    ensures { λ r. ⌜ r ≡ some? (λ (t : ℕ). ltb t (mark - timeWindow)) (take n (now (times .entry))) ⌝ }
 {
     let floor = floor_of(mark);
     if none_below(times, n, floor) {

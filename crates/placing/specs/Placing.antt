@@ -30,6 +30,7 @@ use Rattle.rules.specs.BestFit.{
   bestOf,
   bestFit,
 }
+use Rattle.rules.proofs.Gaps.{next-le}
 use Rattle.placing.specs.declared.Run.{Run}
 use Rattle.placing.specs.declared.Place.{Place}
 use Rattle.placing.specs.declared.Place.the-variants.{At, Nowhere}
@@ -123,11 +124,7 @@ module _ (g h : Gap) where
 module _ (step q B : ℕ) (objects : List Object) (best : Run) (i : ℕ) where
   vacant : wins step B (runFrom q objects i) best ≡ true → free objects i ≡ true
   unfolding wins runFrom
-  vacant h =
-      let f = fits step B (gapFrom q objects i) in
-      let w = not (best .vacant) || better (gapFrom q objects i) (gapOf best) in
-      let s = starts q objects i in
-      and-l (free objects i) (i under next q objects i) (and-l s f (and-l (s && f) w h))
+  vacant h = search (and-l, and-r)
 
   pub winner : wins step B (runFrom q objects i) best ≡ true
       → gapOption (runFrom q objects i) ≡ tried step q objects B (gapOption best) i
@@ -161,18 +158,6 @@ pub next-take : (q : ℕ) (l : List Object) (i k : ℕ) (d : Object) → k < len
     → next q (take (k + 1) l) i ≡ nearer i (next q (take k l) i) (getD l k d)
 next-take q l i k d h = rw (take-more l k d h) (next-more q (take k l) i (getD l k d))
 
-nearer-low : (i end : ℕ) (a : Object) → nearer i end a ≤ end
-nearer-low i end a = go (leb i (a .start))
-  where
-    go : (b : Bool) → cond b (min (a .start) end) end ≤ end
-    go true = omega arith
-    go false = omega arith
-
-pub next-low : (q : ℕ) (l : List Object) (i : ℕ) → next q l i ≤ q
-unfolding next
-next-low q [] i = omega arith
-next-low q (a ∷ l) i = let h = next-low (nearer i q a) l i in let k = nearer-low i q a in omega arith
-
 -- ---- laws: the place in a gap
 pub spot-zero : (g : Gap) → spot 0 g ≡ 0
 unfolding spot
@@ -190,7 +175,5 @@ pub winner-low : (step q B : ℕ) (objects : List Object) (best : Run) (i : ℕ)
 unfolding wins runFrom
 winner-low step q B objects best i h =
     let g = gapFrom q objects i in
-    let s = starts q objects i in
-    let w = not (best .vacant) || better g (gapOf best) in
-    let k = leb-true (spot step g + B) (g .to) (and-r s (fits step B g) (and-l (s && fits step B g) w h)) in
-    let l = next-low q objects i in omega arith
+    let k : leb (spot step g + B) (g .to) ≡ true = search (and-l, and-r) in
+    omega (arith, leb-true (spot step g + B) (g .to) k, next-le q objects i)

@@ -24,7 +24,7 @@ nearer-le i end a = go (leb i (a .start))
     go true = omega arith
     go false = omega arith
 
-next-le : (q : ℕ) (objects : List Object) (i : ℕ) → next q objects i ≤ q
+pub next-le : (q : ℕ) (objects : List Object) (i : ℕ) → next q objects i ≤ q
 unfolding next
 next-le q [] i = omega arith
 next-le q (a ∷ objects) i = omega (arith, next-le (nearer i q a) objects i, nearer-le i q a)

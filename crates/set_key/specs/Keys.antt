@@ -7,7 +7,7 @@ use Rattle.lemmas.specs.Lists.{part}
 use Rattle.digest.specs.Hmac.{hmac}
 use Rattle.rules.specs.declared.Operation.{Operation}
 use Rattle.rules.specs.declared.Operation.the-variants.{Read, Write, Look, Raise, Create, Delete, SetKey}
-use Rattle.keyring.specs.Keys.{isSet, keyIndex, targetIndex, keyStored}
+use Rattle.keyring.specs.Keys.{keySize, isSet, keyIndex, targetIndex, keyStored}
 
 -- where the signing key was never set, all stays, as it does at every other operation
 abbrev pub keysAfter : Operation → ℕ → ℕ → List ℕ → List ℕ → List ℕ
@@ -19,4 +19,4 @@ keysAfter (Create number size) slot p signed ks = ks
 keysAfter Delete slot p signed ks = ks
 keysAfter (SetKey target) slot p signed ks =
     let j = keyIndex slot p in
-    cond (isSet ks j) (keyStored (targetIndex slot p target) (hmac (part ks (32 * j) 32) signed) ks) ks
+    cond (isSet ks j) (keyStored (targetIndex slot p target) (hmac (part ks (keySize * j) keySize) signed) ks) ks

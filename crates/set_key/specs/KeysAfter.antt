@@ -12,12 +12,12 @@ use Rattle.rules.specs.declared.Operation.the-variants.{Read, Write, Look, Rais
 use Rattle.rules.specs.Frame.{Fields}
 use Rattle.rules.specs.Scope.{Scope}
 use Rattle.rules.specs.Operations.{keyIn, signing, newKey, keySet, perform}
-use Rattle.keyring.specs.Keys.{keysIn, keyIndex}
+use Rattle.keyring.specs.Keys.{keysSize, keysIn, keyIndex}
 use Rattle.keyring.specs.KeyLaws.{slot-key, key-put, key-some}
 use Rattle.set_key.specs.Keys.{keysAfter}
 
 -- under a key that is set, as row 8 sees to it
-pub keys-after : (o : Operation) (s : Scope Object) (x : Fields) (m ks : List ℕ) → length ks ≡ 462
+pub keys-after : (o : Operation) (s : Scope Object) (x : Fields) (m ks : List ℕ) → length ks ≡ keysSize
     → s .keys ≡ keysIn ks → keyIn (s .keys) (x .cred .partition) (x .cred .slot) ≡ some (signing (s .keys) x)
     → keysIn (keysAfter o (x .cred .slot) (x .cred .partition) (x .request ++ x .payload) ks)
     ≡ perform o s x m .scope .keys

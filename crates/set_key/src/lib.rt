@@ -2,6 +2,7 @@
 ghost use mathlib.Core.Path.{_≡_};
 ghost use Rattle.set_key.specs.Keys.{keysAfter};
 use digest::mac;
+use keyring::KEY;
 use rules::Operation;
 
 // The keys after an operation under the key in a slot, as partition `p` has it; `signed` is the request and the seed.
@@ -16,6 +17,6 @@ pub fn apply(keys: &mut [u8], o: Operation, slot: u8, p: usize, signed: &[u8])
     if !keyring::is_set(&*keys, j) {
         return;
     }
-    let new = mac::of(&keys[32 * j..32 * j + 32], signed);
+    let new = mac::of(&keys[KEY * j..KEY * j + KEY], signed);
     keyring::store_key(keys, slot, p, target as usize, &new);
 }

@@ -4,33 +4,29 @@ use mathlib.Core.Bool.{Bool, true, false, not, _&&_, _||_}
 use mathlib.Core.List.{List, [], _∷_, map}
 use Prim.Native.Nat.{ℕ, zero, suc, _+_, _^_, _≤_, _<_}
 use native.Mathlib.Numerals.{add-one}
-use native.Mathlib.Decide.{decLe}
 use native.Mathlib.Omega.{arith}
 use lib.Dec.{ltb, leb}
-use lib.ListN.{length, getD, take}
-use borrow.Author.Tests.{ltb-true, ltb-false, leb-true, lt-ltb, le-ltb, le-leb, lt-leb}
+use lib.ListN.{length, getD, take, List·getD-map}
+use borrow.Author.Tests.{ltb-true, ltb-false, leb-true, le-leb, lt-leb}
 use Rattle.lemmas.specs.Tests.{_under_, _is_, _isnt_, and-l, and-r}
 use Rattle.lemmas.specs.Lists.{every, pairs}
-use Rattle.lemmas.specs.ListLaws.{nth-map}
-use Rattle.lemmas.specs.Loops.{every-take, pairs-take}
+use Rattle.lemmas.specs.Loops.{pairs-take}
 use Rattle.rules.specs.declared.Object.{Object}
-use Rattle.rules.specs.Drive.{soundObject, apart}
+use Rattle.rules.specs.Drive.{mostObjects, soundObject, apart}
 use Rattle.rules.specs.Operations.{noObject}
-use Rattle.soundness.specs.Spans.{endOf, clash, clashAt, clearAt, below, each}
+use Rattle.soundness.specs.Spans.{endOf, clash, clashAt, clearAt, each}
+use Rattle.soundness.proofs.Places.{each-first}
+use Rattle.soundness.proofs.Sound.{each-every}
 
-not-or : (a b : Bool) → not (a || b) ≡ (not a && not b)
+pub not-or : (a b : Bool) → not (a || b) ≡ (not a && not b)
 not-or true b = refl
 not-or false b = refl
 
-not-and : (a b : Bool) → not (a && b) ≡ (not a || not b)
+pub not-and : (a b : Bool) → not (a && b) ≡ (not a || not b)
 not-and true b = refl
 not-and false b = refl
 
-or-none : (b : Bool) → (b || false) ≡ b
-or-none true = refl
-or-none false = refl
-
-not-under : (a b : ℕ) → not (a under b) ≡ leb b a
+pub not-under : (a b : ℕ) → not (a under b) ≡ leb b a
 not-under a b = go (ltb a b) refl
   where
     go : (t : Bool) → ltb a b ≡ t → not t ≡ leb b a
@@ -42,50 +38,33 @@ clear a b = not (clash a b)
 
 -- ---- object n against those before it
 module _ (l : List Object) (n : ℕ) (h : n < length l) where
-  met : ℕ → Bool
-  met i = i under n && clashAt (map Object.number l) (map Object.start l) (map endOf l) n i
-
-  clash-at : (i : ℕ) → clashAt (map Object.number l) (map Object.start l) (map endOf l) n i ≡ clash (getD l i noObject) (getD l n noObject)
+  clash-at : (i : ℕ)
+      → clashAt (map Object.number l) (map Object.start l) (map endOf l) n i ≡ clash (getD l i noObject) (getD l n noObject)
   clash-at i =
       rw (
-        nth-map Object.number l i noObject,
-        nth-map Object.number l n noObject,
-        nth-map Object.start l i noObject,
-        nth-map Object.start l n noObject,
-        nth-map endOf l i noObject,
-        nth-map endOf l n noObject,
+        List·getD-map Object.number l i noObject,
+        List·getD-map Object.number l n noObject,
+        List·getD-map Object.start l i noObject,
+        List·getD-map Object.start l n noObject,
+        List·getD-map endOf l i noObject,
+        List·getD-map endOf l n noObject,
       )
 
-  up-to : (k : ℕ) → k ≤ n → not (below met k) ≡ every (λ (a : Object). clear a (getD l n noObject)) (take k l)
-  unfolding below met every
-  up-to zero g = refl
-  up-to (suc k) g =
-      let t : Object → Bool = λ a. clear a (getD l n noObject) in
-      let e : met k ≡ clash (getD l k noObject) (getD l n noObject) = rw (lt-ltb k n g) (clash-at k) in
-      let more : every t (take (suc k) l) ≡ every t (take k l) && t (getD l k noObject) =
-      ap (λ (j : ℕ). every t (take j l)) (sym (add-one k)) ∙ every-take t l k noObject (omega arith) in
-      not-or (below met k) (met k) ∙ rw (up-to k (omega arith), e) (sym more)
-
-  past : (k : ℕ) → n ≤ k → below met k ≡ below met n
-  unfolding below met
-  past zero g = let e : 0 ≡ n = omega arith in ap (below met) e
-  past (suc k) g = elim (decLe n k) [
-    | yes m ↦ rw (le-ltb k n m) (or-none (below met k) ∙ past k m)
-    | no m ↦ let e : suc k ≡ n = omega arith in ap (below met) e
-  ]
-
-  -- what the loop over all sixteen places finds
-  clear-at : length l ≡ 16
-      → clearAt (map Object.number l) (map Object.start l) (map endOf l) n ≡ every (λ (a : Object). clear a (getD l n noObject)) (take n l)
-  unfolding met
-  clear-at e = ap not (past 16 (omega arith)) ∙ up-to n (omega arith)
+  -- what the loop over all places finds
+  clear-at : length l ≡ mostObjects → clearAt (map Object.number l) (map Object.start l) (map endOf l) n
+      ≡ every (λ (a : Object). clear a (getD l n noObject)) (take n l)
+  clear-at e =
+      let clashes = clashAt (map Object.number l) (map Object.start l) (map endOf l) n in
+      each-first (λ (i : ℕ). not (clashes i)) n mostObjects (omega arith)
+      ∙ each-every (λ (i : ℕ). not (clashes i)) (λ (a : Object). clear a (getD l n noObject)) l noObject
+      (λ i. ap not (clash-at i)) n (omega arith)
 
 -- ---- the first n objects, each against those before it
-module _ (l : List Object) (long : length l ≡ 16) where
+module _ (l : List Object) (long : length l ≡ mostObjects) where
   test : ℕ → Bool
   test = clearAt (map Object.number l) (map Object.start l) (map endOf l)
 
-  each-clear : (n : ℕ) → n ≤ 16 → each test n ≡ pairs clear (take n l)
+  each-clear : (n : ℕ) → n ≤ mostObjects → each test n ≡ pairs clear (take n l)
   unfolding each pairs test
   each-clear zero g = refl
   each-clear (suc n) g =
@@ -95,7 +74,7 @@ module _ (l : List Object) (long : length l ≡ 16) where
       rw (each-clear n (omega arith), clear-at l n h long) (sym more)
 
   -- what the loop over the first n finds
-  pub clear-each : (numbers starts ends : List ℕ) (n : ℕ) → n ≤ 16
+  pub clear-each : (numbers starts ends : List ℕ) (n : ℕ) → n ≤ mostObjects
       → numbers ≡ map Object.number l → starts ≡ map Object.start l → ends ≡ map endOf l
       → each (clearAt numbers starts ends) n ≡ pairs clear (take n l)
   unfolding test

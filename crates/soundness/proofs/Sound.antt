@@ -1,30 +1,22 @@
 -- Objects sound by the ends of their extents, place by place; of narrow ones that is the rules' `soundObject`.
 use mathlib.Core.Path.{_≡_, refl, sym, ap, _∙_}
-use mathlib.Core.Bool.{Bool, true, false, _&&_}
+use mathlib.Core.Bool.{Bool, true, _&&_, and-false, and-assoc}
 use mathlib.Core.List.{List, map}
 use Prim.Native.Nat.{ℕ, zero, suc, _+_, _%_, _^_, _≤_, _<_}
 use native.Mathlib.Numerals.{add-one}
 use native.Mathlib.Decide.{decLt}
 use native.Mathlib.Omega.{arith}
 use lib.Dec.{leb}
-use lib.ListN.{length, getD, take}
+use lib.ListN.{length, getD, take, List·getD-map}
 use borrow.Author.Tests.{ltb-true, lt-ltb, le-ltb, le-leb, lt-leb}
 use Rattle.lemmas.specs.Tests.{_under_}
 use Rattle.lemmas.specs.Lists.{every}
-use Rattle.lemmas.specs.ListLaws.{nth-map, every-nth}
+use Rattle.lemmas.specs.ListLaws.{every-nth}
 use Rattle.lemmas.specs.Loops.{every-take}
 use Rattle.rules.specs.declared.Object.{Object}
 use Rattle.rules.specs.Drive.{soundObject}
 use Rattle.rules.specs.Operations.{noObject}
 use Rattle.soundness.specs.Spans.{endOf, narrow, soundSpan, soundAt, each}
-
-and-none : (a : Bool) → (a && false) ≡ false
-and-none true = refl
-and-none false = refl
-
-pub and-assoc : (a b c : Bool) → (a && b && c) ≡ (a && (b && c))
-and-assoc true b c = refl
-and-assoc false b c = refl
 
 -- a test of places that is one of a list's elements
 pub each-every : {A : Type 0} (t : ℕ → Bool) (p : A → Bool) (l : List A) (d : A) → ((i : ℕ) → t i ≡ p (getD l i d))
@@ -43,7 +35,7 @@ module _ (q last : ℕ) (small : q < 2 ^ 32) where
     | yes m ↦ let e : (s + z) % 2 ^ 32 ≡ s + z = omega arith in rw e (ap (λ (b : Bool). b && leb (s + z) q) (some s z))
     | no m ↦
         let over : (s + z) % 2 ^ 32 ≤ s = omega arith in
-        rw (le-ltb s ((s + z) % 2 ^ 32) over, lt-leb (s + z) q (omega arith)) (sym (and-none (leb 1 z)))
+        rw (le-ltb s ((s + z) % 2 ^ 32) over, lt-leb (s + z) q (omega arith)) (sym (and-false (leb 1 z)))
   ]
     where
       some : (s z : ℕ) → (s under (s + z)) ≡ leb 1 z
@@ -68,10 +60,10 @@ module _ (q last : ℕ) (small : q < 2 ^ 32) where
     unfolding test
     sound-at i =
         rw (
-          nth-map Object.number l i noObject,
-          nth-map Object.start l i noObject,
-          nth-map endOf l i noObject,
-          nth-map Object.version l i noObject,
+          List·getD-map Object.number l i noObject,
+          List·getD-map Object.start l i noObject,
+          List·getD-map endOf l i noObject,
+          List·getD-map Object.version l i noObject,
         ) (sound-one (getD l i noObject) (every-nth narrow l i noObject refl w))
 
     -- what the loop over the first n finds

@@ -1,7 +1,7 @@
 -- Objects judged and compared by their numbers and by 32-bit ends of their extents. Of sound objects that is the rules'
 -- `apart` (clear-pairs in proofs/Clear.antt).
 use mathlib.Core.Path.{_≡_, ap}
-use mathlib.Core.Bool.{Bool, true, false, not, _&&_, _||_}
+use mathlib.Core.Bool.{Bool, true, not, _&&_, _||_}
 use mathlib.Core.List.{List, map}
 use Prim.Native.Nat.{ℕ, zero, suc, _+_, _%_, _^_}
 use native.Mathlib.Numerals.{add-one}
@@ -9,6 +9,7 @@ use lib.Dec.{leb}
 use lib.ListN.{getD}
 use Rattle.lemmas.specs.Tests.{_is_, _under_}
 use Rattle.rules.specs.declared.Object.{Object}
+use Rattle.rules.specs.Drive.{mostObjects}
 use Rattle.state.specs.Table.{range}
 
 -- an extent's end, by a sum that wraps
@@ -27,9 +28,9 @@ narrowAt sizes i = getD sizes i 0 under 2 ^ 32
 abbrev pub endAt : List ℕ → List ℕ → ℕ → ℕ
 endAt starts sizes i = (getD starts i 0 + getD sizes i 0) % 2 ^ 32
 
--- the ends of all sixteen
+-- the ends of all
 unfoldable pub endsOf : List ℕ → List ℕ → List ℕ
-endsOf starts sizes = map (endAt starts sizes) (range 0 16)
+endsOf starts sizes = map (endAt starts sizes) (range 0 mostObjects)
 
 -- an object's soundness by the end of its extent; of a narrow one that is the rules' `soundObject` (sound-each in
 -- proofs/Sound.antt)
@@ -50,19 +51,6 @@ abbrev pub clashAt : List ℕ → List ℕ → List ℕ → ℕ → ℕ → Bool
 clashAt numbers starts ends n i =
     getD numbers i 0 is getD numbers n 0 || (getD starts n 0 under getD ends i 0 && getD starts i 0 under getD ends n 0)
 
--- whether a number under k passes a test
-unfoldable pub below : (ℕ → Bool) → ℕ → Bool
-below t zero = false
-below t (suc k) = below t k || t k
-
-pub below-more : (t : ℕ → Bool) (k : ℕ) → below t (k + 1) ≡ below t k || t k
-unfolding below
-below-more t k = ap (below t) (add-one k)
-
--- whether place n clashes with none before it, of sixteen
-abbrev pub clearAt : List ℕ → List ℕ → List ℕ → ℕ → Bool
-clearAt numbers starts ends n = not (below (λ (i : ℕ). i under n && clashAt numbers starts ends n i) 16)
-
 -- whether every number under k passes a test
 unfoldable pub each : (ℕ → Bool) → ℕ → Bool
 each t zero = true
@@ -71,3 +59,7 @@ each t (suc k) = each t k && t k
 pub each-more : (t : ℕ → Bool) (k : ℕ) → each t (k + 1) ≡ each t k && t k
 unfolding each
 each-more t k = ap (each t) (add-one k)
+
+-- whether place n clashes with none before it; the test goes over all places, and lets those from n on pass
+abbrev pub clearAt : List ℕ → List ℕ → List ℕ → ℕ → Bool
+clearAt numbers starts ends n = each (λ (i : ℕ). leb n i || not (clashAt numbers starts ends n i)) mostObjects

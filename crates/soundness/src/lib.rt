@@ -5,9 +5,17 @@ ghost use Prim.Native.Nat.{_≤_, _<_, _+_, _%_, _^_};
 ghost use lib.ListN.{length, getD};
 ghost use Rattle.lemmas.specs.Tests.{_is_};
 ghost use Rattle.rules.specs.Drive.{mostObjects, soundPartition};
-ghost use Rattle.state.specs.Table.{tableSize, partitionView};
+ghost use Rattle.state.specs.Table.{countAt, tableSize, partitionView};
 ghost use Rattle.soundness.specs.Spans.{endsOf, narrowAt, soundSpan, soundAt, clearAt, each};
 use lemmas::smaller;
+use state::COUNT;
+use state::LAST;
+use state::MOST_OBJECTS;
+use state::NUMBERS;
+use state::SIZES;
+use state::STARTS;
+use state::TABLE;
+use state::VERSIONS;
 use std::num::wrapping_add_u32;
 
 // A number from 1, a nonempty extent inside the quarter, a version not over the last given. An end that wrapped does not
@@ -26,14 +34,14 @@ fn end_of(start: u32, size: u32) -> u32
 }
 
 // Where each extent ends; a sum may wrap, but not that of a sound object.
-fn ends_of(starts: &[u32], sizes: &[u32]) -> [u32; 16]
-    requires { ⌜ (length (now starts) ≡ 16) × (length (now sizes) ≡ 16) ⌝ }
+fn ends_of(starts: &[u32], sizes: &[u32]) -> [u32; MOST_OBJECTS]
+    requires { ⌜ (length (now starts) ≡ mostObjects) × (length (now sizes) ≡ mostObjects) ⌝ }
     ensures { λ r. ⌜ (r ≡ endsOf (now (starts .entry)) (now (sizes .entry)))
-        × (each (narrowAt (now (sizes .entry))) 16 ≡ true) ⌝ }
+        × (each (narrowAt (now (sizes .entry))) mostObjects ≡ true) ⌝ }
 {
-    let mut r = [0u32; 16];
+    let mut r = [0u32; MOST_OBJECTS];
     let mut i = 0;
-    while i < 16 {
+    while i < MOST_OBJECTS {
         r[i] = end_of(starts[i], sizes[i]);
         i += 1;
     }
@@ -50,7 +58,7 @@ fn all_sound(
     quarter: u32,
     last: u32,
 ) -> bool
-    requires { ⌜ (n ≤ 16) × (length (now numbers) ≡ 16) × (length (now starts) ≡ 16) × (length (now ends) ≡ 16) × (length (now versions) ≡ 16) ⌝ }
+    requires { ⌜ (n ≤ mostObjects) × (length (now numbers) ≡ mostObjects) × (length (now starts) ≡ mostObjects) × (length (now ends) ≡ mostObjects) × (length (now versions) ≡ mostObjects) ⌝ }
     ensures { λ r. ⌜ r ≡ each (soundAt quarter last (now (numbers .entry)) (now (starts .entry)) (now (ends .entry)) (now (versions .entry))) n ⌝ }
 {
     let mut r = true;
@@ -65,7 +73,7 @@ fn all_sound(
 // Whether object n shares neither a number nor a byte with one before it. The loop goes over all sixteen places, and not
 // to n: a loop of fixed length without a branch is what a compiler tests several objects at a time in.
 fn is_clear(numbers: &[u32], starts: &[u32], ends: &[u32], n: usize) -> bool
-    requires { ⌜ (n < 16) × (length (now numbers) ≡ 16) × (length (now starts) ≡ 16) × (length (now ends) ≡ 16) ⌝ }
+    requires { ⌜ (n < mostObjects) × (length (now numbers) ≡ mostObjects) × (length (now starts) ≡ mostObjects) × (length (now ends) ≡ mostObjects) ⌝ }
     ensures { λ r. ⌜ r ≡ clearAt (now (numbers .entry)) (now (starts .entry)) (now (ends .entry)) n ⌝ }
 {
     let number = numbers[n];
@@ -73,7 +81,7 @@ fn is_clear(numbers: &[u32], starts: &[u32], ends: &[u32], n: usize) -> bool
     let end = ends[n];
     let mut hit = false;
     let mut i = 0;
-    while i < 16 {
+    while i < MOST_OBJECTS {
         hit = hit | ((i < n) & ((numbers[i] == number) | ((start < ends[i]) & (starts[i] < end))));
         i += 1;
     }
@@ -84,7 +92,7 @@ fn is_clear(numbers: &[u32], starts: &[u32], ends: &[u32], n: usize) -> bool
 // as clear: so none is left over that a compiler tests alone. Its place is read from an array: with the bare i in that test,
 // the loop was measured to be twice as slow.
 fn all_clear(numbers: &[u32], starts: &[u32], ends: &[u32], n: usize) -> bool
-    requires { ⌜ (n ≤ 16) × (length (now numbers) ≡ 16) × (length (now starts) ≡ 16) × (length (now ends) ≡ 16) ⌝ }
+    requires { ⌜ (n ≤ mostObjects) × (length (now numbers) ≡ mostObjects) × (length (now starts) ≡ mostObjects) × (length (now ends) ≡ mostObjects) ⌝ }
     ensures { λ r. ⌜ r ≡ each (clearAt (now (numbers .entry)) (now (starts .entry)) (now (ends .entry))) n ⌝ }
 {
     let places = [0u32, 1, 2, 3, 4, 5, 6, 7, 8, 9, 10, 11, 12, 13, 14, 15];
@@ -102,23 +110,23 @@ fn all_clear(numbers: &[u32], starts: &[u32], ends: &[u32], n: usize) -> bool
 // Whether a list is a table, and its partition is sound.
 pub fn sound_table(table: &[u32], quarter: u32) -> bool
     ensures { λ r. ⌜ (r ≡ (length (now (table .entry)) is tableSize && soundPartition quarter (partitionView (now (table .entry)))))
-        × (r ≡ true → getD (now (table .entry)) 2 0 ≤ mostObjects) ⌝ }
+        × (r ≡ true → getD (now (table .entry)) countAt 0 ≤ mostObjects) ⌝ }
 {
-    if table.len() != 67 {
+    if table.len() != TABLE {
         return false;
     }
-    let n = smaller(table[2] as usize, 16);
-    let ends = ends_of(&table[51..67], &table[35..51]);
-    let free = all_clear(&table[3..19], &table[51..67], &ends, n);
-    (table[2] <= 16)
+    let n = smaller(table[COUNT] as usize, MOST_OBJECTS);
+    let ends = ends_of(&table[STARTS..TABLE], &table[SIZES..STARTS]);
+    let free = all_clear(&table[NUMBERS..VERSIONS], &table[STARTS..TABLE], &ends, n);
+    (table[COUNT] <= MOST_OBJECTS as u32)
         & all_sound(
-            &table[3..19],
-            &table[51..67],
+            &table[NUMBERS..VERSIONS],
+            &table[STARTS..TABLE],
             &ends,
-            &table[19..35],
+            &table[VERSIONS..SIZES],
             n,
             quarter,
-            table[1],
+            table[LAST],
         )
         & free
 }

@@ -3,15 +3,16 @@ use mathlib.Core.Path.{_≡_}
 use mathlib.Core.Bool.{cond}
 use mathlib.Core.List.{List, [], _∷_, _++_}
 use Prim.Native.Nat.{ℕ, _+_}
-use lib.ListN.{length, getD, drop, set}
+use lib.ListN.{length, getD, set}
 use Rattle.lemmas.specs.Tests.{_is_, _isnt_, _under_}
 use Rattle.lemmas.specs.Lists.{keep, change}
+use Rattle.lemmas.specs.Fronts.{withFront}
 use Rattle.rules.specs.declared.Object.{Object}
 use Rattle.rules.specs.Drive.{mostObjects}
 use Rattle.rules.specs.Operations.{withVersion}
-use Rattle.state.specs.Table.{tableSize, places, objectsIn}
+use Rattle.state.specs.Table.{versionAt, lastAt, countAt, tableSize, places, objectsIn}
 
--- what a table says: its version, the last version given, its count, and what stands at all sixteen places
+-- what a table says: its version, the last version given, its count, and what stands at all its places
 pub record Content : Type 0 where
   pub version : ℕ
   pub last : ℕ
@@ -19,48 +20,50 @@ pub record Content : Type 0 where
   pub objects : List Object
 
 abbrev pub contentOf : List ℕ → Content
-contentOf t = record { version = getD t 0 0; last = getD t 1 0; count = getD t 2 0; objects = places t }
+contentOf t = record {
+  version = getD t versionAt 0;
+  last = getD t lastAt 0;
+  count = getD t countAt 0;
+  objects = places t;
+}
+
+-- the same with other objects
+abbrev pub withObjects : List Object → Content → Content
+withObjects os c = record { version = c .version; last = c .last; count = c .count; objects = os }
 
 -- u is as long as t and says c
 pub record HasContent (t u : List ℕ) (c : Content) : Type 0 where
   pub long : length u ≡ length t
-  pub version : getD u 0 0 ≡ c .version
-  pub last : getD u 1 0 ≡ c .last
-  pub count : getD u 2 0 ≡ c .count
-  pub objects : places u ≡ c .objects
+  pub says : contentOf u ≡ c
 
 -- a table now says c; a list that is no table is as it was
 pub record ChangedTo (t u : List ℕ) (c : Content) : Type 0 where
   pub table : length t ≡ tableSize → HasContent t u c
   pub other : (length t ≡ tableSize → ⊥) → u ≡ t
 
--- the objects f at the first places; what stands behind them stays
-abbrev pub withFront : List Object → List ℕ → List Object
-withFront f t = f ++ drop (length f) (places t)
-
 -- the table with the objects f at the first places, and with o at place i; all else as it was
 abbrev pub contentWithFront : List Object → List ℕ → Content
-contentWithFront f t = record { version = getD t 0 0; last = getD t 1 0; count = getD t 2 0; objects = withFront f t }
+contentWithFront f t = withObjects (withFront f (places t)) (contentOf t)
 
 abbrev pub contentWithObject : ℕ → Object → List ℕ → Content
-contentWithObject i o t = record { version = getD t 0 0; last = getD t 1 0; count = getD t 2 0; objects = set (places t) i o }
+contentWithObject i o t = withObjects (set (places t) i o) (contentOf t)
 
 -- 4. "object or partition gets the next version", which is v; object 0 means the partition
 unfoldable pub raisedContent : ℕ → ℕ → List ℕ → Content
 raisedContent number v t = record {
-  version = cond (number is 0) v (getD t 0 0);
+  version = cond (number is 0) v (getD t versionAt 0);
   last = v;
-  count = getD t 2 0;
-  objects = cond (number is 0) (places t) (withFront (change Object.number number (withVersion v) (objectsIn t)) t);
+  count = getD t countAt 0;
+  objects = cond (number is 0) (places t) (withFront (change Object.number number (withVersion v) (objectsIn t)) (places t));
 }
 
 -- 5. the object joins behind those that are held, where there is room; its version is the last given
 unfoldable pub createdContent : Object → List ℕ → Content
 createdContent o t = record {
-  version = getD t 0 0;
+  version = getD t versionAt 0;
   last = o .version;
-  count = cond (getD t 2 0 under mostObjects) (getD t 2 0 + 1) (getD t 2 0);
-  objects = cond (getD t 2 0 under mostObjects) (withFront (objectsIn t ++ (o ∷ [])) t) (places t);
+  count = cond (getD t countAt 0 under mostObjects) (getD t countAt 0 + 1) (getD t countAt 0);
+  objects = cond (getD t countAt 0 under mostObjects) (withFront (objectsIn t ++ (o ∷ [])) (places t)) (places t);
 }
 
 -- 6. "the object goes": those of other numbers, in their order
@@ -69,8 +72,8 @@ otherObjects number t = keep (λ (a : Object). a .number isnt number) (objectsIn
 
 unfoldable pub deletedContent : ℕ → List ℕ → Content
 deletedContent number t = record {
-  version = getD t 0 0;
-  last = getD t 1 0;
+  version = getD t versionAt 0;
+  last = getD t lastAt 0;
   count = length (otherObjects number t);
-  objects = withFront (otherObjects number t) t;
+  objects = withFront (otherObjects number t) (places t);
 }

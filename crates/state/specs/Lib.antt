@@ -4,5 +4,4 @@ pub mod Table
 pub mod Places
 pub mod Changes
 pub mod Stores
-pub mod Fronts
 pub mod Steps

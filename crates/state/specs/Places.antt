@@ -16,7 +16,19 @@ use Rattle.rules.specs.declared.Object.{Object}
 use Rattle.rules.specs.Drive.{mostObjects}
 use Rattle.rules.specs.Operations.{noObject}
 use Rattle.state.specs.Padded.{padded-is}
-use Rattle.state.specs.Table.{tableSize, objectAt, range, places, countIn, objectsIn, partitionIn, partitionView, lookupIn}
+use Rattle.state.specs.Table.{
+  countAt,
+  numbersFrom,
+  tableSize,
+  objectAt,
+  range,
+  places,
+  countIn,
+  objectsIn,
+  partitionIn,
+  partitionView,
+  lookupIn,
+}
 
 -- ---- numbers in a row, mapped
 pub range-length : {A : Type 0} (f : ℕ → A) (a n : ℕ) → length (map f (range a n)) ≡ n
@@ -29,17 +41,17 @@ range-at f a (suc n) zero d h = let e : a ≡ a + 0 = omega arith in ap f e
 range-at f a (suc n) (suc k) d h =
     let e : (a + 1) + k ≡ a + suc k = omega arith in range-at f (a + 1) n k d (le-of-suc-le-suc h) ∙ ap f e
 
--- ---- the sixteen places
-pub places-length : (t : List ℕ) → length (places t) ≡ 16
+-- ---- the places
+pub places-length : (t : List ℕ) → length (places t) ≡ mostObjects
 unfolding places
-places-length t = range-length (objectAt t) 0 16
+places-length t = range-length (objectAt t) 0 mostObjects
 
-pub places-at : (t : List ℕ) (i : ℕ) → i < 16 → getD (places t) i noObject ≡ objectAt t i
+pub places-at : (t : List ℕ) (i : ℕ) → i < mostObjects → getD (places t) i noObject ≡ objectAt t i
 unfolding places
-places-at t i h = let e : 0 + i ≡ i = omega arith in range-at (objectAt t) 0 16 i noObject h ∙ ap (objectAt t) e
+places-at t i h = let e : 0 + i ≡ i = omega arith in range-at (objectAt t) 0 mostObjects i noObject h ∙ ap (objectAt t) e
 
 -- ---- what is held
-pub objects-length : (t : List ℕ) → length (objectsIn t) ≡ min (countIn t) 16
+pub objects-length : (t : List ℕ) → length (objectsIn t) ≡ min (countIn t) mostObjects
 unfolding objectsIn
 objects-length t = length-take (countIn t) (places t) ∙ ap (min (countIn t)) (places-length t)
 
@@ -47,7 +59,7 @@ objects-length t = length-take (countIn t) (places t) ∙ ap (min (countIn t)) (
 pub objects-table : (t : List ℕ) → 0 < length (objectsIn t) → length t ≡ tableSize
 objects-table t h = go (length t is tableSize) refl (omega (arith, objects-length t))
   where
-    go : (b : Bool) → (length t is tableSize) ≡ b → 0 < cond b (getD t 2 0) 0 → length t ≡ tableSize
+    go : (b : Bool) → (length t is tableSize) ≡ b → 0 < cond b (getD t countAt 0) 0 → length t ≡ tableSize
     go true e m = eqb-true (length t) tableSize e
     go false e m = absurd (not-suc-le-zero m)
 
@@ -57,23 +69,23 @@ objects-at t i h =
     let n = objects-length t in
     getD-take (countIn t) (places t) i noObject (omega arith) ∙ places-at t i (omega arith)
 
--- a table's count is the third of its numbers
-pub count-is : (t : List ℕ) → length t ≡ tableSize → countIn t ≡ getD t 2 0
+-- a table's count
+pub count-is : (t : List ℕ) → length t ≡ tableSize → countIn t ≡ getD t countAt 0
 count-is t e = rw (eq-eqb (length t) tableSize e) refl
 
 -- a table whose count is within its places
-pub view-is : (t : List ℕ) → length t ≡ tableSize → getD t 2 0 ≤ mostObjects → partitionView t ≡ partitionIn t
+pub view-is : (t : List ℕ) → length t ≡ tableSize → getD t countAt 0 ≤ mostObjects → partitionView t ≡ partitionIn t
 unfolding partitionView partitionIn objectsIn
-view-is t e h = rw (padded-is mostObjects noObject (getD t 2 0) (places t) h, count-is t e) refl
+view-is t e h = rw (padded-is mostObjects noObject (getD t countAt 0) (places t) h, count-is t e) refl
 
 -- ---- a search by number that stands at place i
 module _ (t : List ℕ) (number i : ℕ) (more : i < length (objectsIn t))
     (none-yet : find Object.number number (take i (objectsIn t)) ≡ none) where
-  number-at : getD (objectsIn t) i noObject .number ≡ getD t (3 + i) 0
+  number-at : getD (objectsIn t) i noObject .number ≡ getD t (numbersFrom + i) 0
   unfolding objectAt
   number-at = ap Object.number (objects-at t i more)
 
-  pub lookup-here : getD t (3 + i) 0 ≡ number
+  pub lookup-here : getD t (numbersFrom + i) 0 ≡ number
       → lookupIn (objectsIn t) number ≡ record { missing = false; object = getD (objectsIn t) i noObject }
   unfolding lookupIn missing
   lookup-here e = rw found
@@ -84,7 +96,7 @@ module _ (t : List ℕ) (number i : ℕ) (more : i < length (objectsIn t))
           ∙ find-hit Object.number number (objectsIn t) i noObject (length (objectsIn t)) more more none-yet
           (eq-eqb (getD (objectsIn t) i noObject .number) number (number-at ∙ e))
 
-  pub lookup-later : (getD t (3 + i) 0 ≡ number → ⊥) → find Object.number number (take (i + 1) (objectsIn t)) ≡ none
+  pub lookup-later : (getD t (numbersFrom + i) 0 ≡ number → ⊥) → find Object.number number (take (i + 1) (objectsIn t)) ≡ none
   lookup-later n =
       find-pass Object.number number (objectsIn t) i noObject more none-yet
       (ne-eqb (getD (objectsIn t) i noObject .number) number (λ e. n (sym number-at ∙ e)))

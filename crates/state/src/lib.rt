@@ -1,4 +1,4 @@
-// A partition's table (document 01, "Drive state"): 67 numbers lent. Its version, the last version given, how many
+// A partition's table (document 01, "Drive state"): a lent list of numbers. Its version, the last version given, how many
 // objects there are; then, sixteen of each, the objects' numbers, versions, sizes and starts, in order of creation.
 // Everything is total: a list of another length holds no object and is never changed, and a count over sixteen is taken
 // for sixteen.
@@ -14,6 +14,27 @@ ghost use Rattle.state.specs.Changes.{HasContent, ChangedTo, contentWith
 use lemmas::smaller;
 use rules::Object;
 
+// At most so many objects a partition.
+pub const MOST_OBJECTS: usize = 16;
+
+// Where in a table its numbers stand, as in specs/Table.antt.
+pub const VERSION: usize = 0;
+
+pub const LAST: usize = 1;
+
+pub const COUNT: usize = 2;
+
+pub const NUMBERS: usize = 3;
+
+pub const VERSIONS: usize = NUMBERS + MOST_OBJECTS;
+
+pub const SIZES: usize = VERSIONS + MOST_OBJECTS;
+
+pub const STARTS: usize = SIZES + MOST_OBJECTS;
+
+// How many numbers a table has.
+pub const TABLE: usize = STARTS + MOST_OBJECTS;
+
 // What a number names: whether nothing, and the object, all zeros where nothing.
 pub struct Lookup {
     pub missing: bool,
@@ -24,10 +45,10 @@ pub struct Lookup {
 pub fn object_count(table: &[u32]) -> usize
     ensures { λ r. ⌜ (r ≡ length (objectsIn (now (table .entry)))) × (r ≤ mostObjects) ⌝ }
 {
-    if table.len() != 67 {
+    if table.len() != TABLE {
         return 0;
     }
-    smaller(table[2] as usize, 16)
+    smaller(table[COUNT] as usize, MOST_OBJECTS)
 }
 
 // The object at a place; past the last, all zeros.
@@ -43,10 +64,10 @@ pub fn object_at(table: &[u32], i: usize) -> Object
         };
     }
     Object {
-        number: table[3 + i],
-        version: table[19 + i],
-        size: table[35 + i],
-        start: table[51 + i],
+        number: table[NUMBERS + i],
+        version: table[VERSIONS + i],
+        size: table[SIZES + i],
+        start: table[STARTS + i],
     }
 }
 
@@ -57,7 +78,7 @@ pub fn look_up(table: &[u32], number: u32) -> Lookup
     let n = object_count(table);
     let mut i = 0;
     while i < n {
-        if table[3 + i] == number {
+        if table[NUMBERS + i] == number {
             return Lookup {
                 missing: false,
                 object: object_at(table, i),
@@ -79,13 +100,13 @@ pub fn look_up(table: &[u32], number: u32) -> Lookup
 
 // Stores an object at a place.
 fn put(table: &mut [u32], i: usize, o: Object)
-    requires { ⌜ (length (now table) ≡ tableSize) × (i < 16) ⌝ }
+    requires { ⌜ (length (now table) ≡ tableSize) × (i < mostObjects) ⌝ }
     ensures { λ _. ⌜ HasContent (now (table .entry)) (now (table .exit)) (contentWithObject i o (now (table .entry))) ⌝ }
 {
-    table[3 + i] = o.number;
-    table[19 + i] = o.version;
-    table[35 + i] = o.size;
-    table[51 + i] = o.start;
+    table[NUMBERS + i] = o.number;
+    table[VERSIONS + i] = o.version;
+    table[SIZES + i] = o.size;
+    table[STARTS + i] = o.start;
 }
 
 // Gives each object of a number a version.
@@ -100,8 +121,8 @@ fn renew(table: &mut [u32], number: u32, version: u32)
     while i < n {
         let at = i;
         i += 1;
-        if table[3 + at] == number {
-            table[19 + at] = version;
+        if table[NUMBERS + at] == number {
+            table[VERSIONS + at] = version;
         }
     }
 }
@@ -110,12 +131,12 @@ fn renew(table: &mut [u32], number: u32, version: u32)
 pub fn raise(table: &mut [u32], number: u32, version: u32)
     ensures { λ _. ⌜ ChangedTo (now (table .entry)) (now (table .exit)) (raisedContent number version (now (table .entry))) ⌝ }
 {
-    if table.len() != 67 {
+    if table.len() != TABLE {
         return;
     }
-    table[1] = version;
+    table[LAST] = version;
     if number == 0 {
-        table[0] = version;
+        table[VERSION] = version;
         return;
     }
     renew(table, number, version);
@@ -125,16 +146,16 @@ pub fn raise(table: &mut [u32], number: u32, version: u32)
 pub fn create(table: &mut [u32], o: Object)
     ensures { λ _. ⌜ ChangedTo (now (table .entry)) (now (table .exit)) (createdContent o (now (table .entry))) ⌝ }
 {
-    if table.len() != 67 {
+    if table.len() != TABLE {
         return;
     }
-    let n = table[2] as usize;
-    table[1] = o.version;
-    if 16 <= n {
+    let n = table[COUNT] as usize;
+    table[LAST] = o.version;
+    if MOST_OBJECTS <= n {
         return;
     }
     put(table, n, o);
-    table[2] = (n + 1) as u32;
+    table[COUNT] = (n + 1) as u32;
 }
 
 // Operation 6: the object goes. The others move to the front, in their order, and are counted; what stands from there
@@ -142,7 +163,7 @@ pub fn create(table: &mut [u32], o: Object)
 pub fn delete(table: &mut [u32], number: u32)
     ensures { λ _. ⌜ ChangedTo (now (table .entry)) (now (table .exit)) (deletedContent number (now (table .entry))) ⌝ }
 {
-    if table.len() != 67 {
+    if table.len() != TABLE {
         return;
     }
     let n = object_count(&*table);
@@ -156,5 +177,5 @@ pub fn delete(table: &mut [u32], number: u32)
             left += 1;
         }
     }
-    table[2] = left as u32;
+    table[COUNT] = left as u32;
 }

@@ -8,23 +8,24 @@ use borrow.Author.Tests.{not-true, not-false, ltb-true, eqb-true}
 use Rattle.lemmas.specs.Tests.{_is_, _under_, and-l, and-r}
 use Rattle.keyring.proofs.is_set.Statement.{statement}
 use Rattle.keyring.proofs.is_set.Tie as tie
+use Rattle.keyring.specs.Keys.{keysSize, keyCount}
 
-there : (t : tie.Else1) → let a = t .before .args in (length (a .keys .now) is 462 && a .j under 14) ≡ true
-there t = let a = t .before .args in not-false (length (a .keys .now) is 462 && a .j under 14) (t .if1 .left)
+there : (t : tie.Else1) → let a = t .before .args in (length (a .keys .now) is keysSize && a .j under keyCount) ≡ true
+there t = let a = t .before .args in not-false (length (a .keys .now) is keysSize && a .j under keyCount) (t .if1 .left)
 
-low : (t : tie.Else1) → t .before .args .j < 14
+low : (t : tie.Else1) → t .before .args .j < keyCount
 low t =
     let a = t .before .args in
-    ltb-true (a .j) 14 (and-r (length (a .keys .now) is 462) (a .j under 14) (there t))
+    ltb-true (a .j) keyCount (and-r (length (a .keys .now) is keysSize) (a .j under keyCount) (there t))
 
-long : (t : tie.Else1) → length (t .before .args .keys .now) ≡ 462
+long : (t : tie.Else1) → length (t .before .args .keys .now) ≡ keysSize
 long t =
     let a = t .before .args in
-    eqb-true (length (a .keys .now)) 462 (and-l (length (a .keys .now) is 462) (a .j under 14) (there t))
+    eqb-true (length (a .keys .now)) keysSize (and-l (length (a .keys .now) is keysSize) (a .j under keyCount) (there t))
 
 returns : tie.Need-returns
 returns c =
-    let a = c .before .args in rw (not-true (length (a .keys .now) is 462 && a .j under 14) (c .if1 .taken)) refl
+    let a = c .before .args in rw (not-true (length (a .keys .now) is keysSize && a .j under keyCount) (c .if1 .taken)) refl
 
 returns-2 : tie.Need-returns-2
 returns-2 c = rw (there (c .before)) refl

@@ -11,17 +11,18 @@ use Rattle.keyring.specs.KeyLaws.{fits-yes, fits-not}
 use Rattle.keyring.proofs.Places.{copied-length, stored}
 use Rattle.keyring.proofs.store_at.Statement.{statement}
 use Rattle.keyring.proofs.store_at.Tie as tie
+use Rattle.keyring.specs.Keys.{keysSize, keyCount, keySize}
 
 fits : (t : tie.Else1) → let a = t .before .before .before .args in
-    (a .j under 14 && length (a .keys .now) is 462 && length (a .new .now) is 32) ≡ true
+    (a .j under keyCount && length (a .keys .now) is keysSize && length (a .new .now) is keySize) ≡ true
 fits t =
     let a = t .before .before .before .args in
-    not-false (a .j under 14 && length (a .keys .now) is 462 && length (a .new .now) is 32) (t .if1 .left)
+    not-false (a .j under keyCount && length (a .keys .now) is keysSize && length (a .new .now) is keySize) (t .if1 .left)
 
-low : (t : tie.Else1) → t .before .before .before .args .j < 14
+low : (t : tie.Else1) → t .before .before .before .args .j < keyCount
 low t = let a = t .before .before .before .args in fits-yes (a .j) (a .new .now) (a .keys .now) (fits t) .0
 
-long : (t : tie.After-copy-to) → length (t .copy-to .last .0) ≡ 462
+long : (t : tie.After-copy-to) → length (t .copy-to .last .0) ≡ keysSize
 long t =
     let a = t .before .before .before .before .before .args in
     copied-length (a .j) (a .new .now) (a .keys .now) (t .copy-to .last .0) (fits (t .before .before)) (t .copy-to .ensures)
@@ -30,7 +31,7 @@ returns : tie.Need-returns
 returns c =
     let a = c .before .before .before .args in
     sym (fits-not (a .j) (a .new .now) (a .keys .now)
-    (not-true (a .j under 14 && length (a .keys .now) is 462 && length (a .new .now) is 32) (c .if1 .taken)))
+    (not-true (a .j under keyCount && length (a .keys .now) is keysSize && length (a .new .now) is keySize) (c .if1 .taken)))
 
 mul-copy-to : tie.Need-mul-copy-to
 mul-copy-to c = omega (arith, low (c .before))

@@ -14,7 +14,7 @@ returns c =
     let t = a .times .now in
     let n = a .counts .now in
     let k = c .before .before .before .shortest in
-    none-outlived (a .mark) s h t n (k .result) (k .ensures ∙ sym (entries-count s h t n)) (sym (c .before .stale .ensures) ∙ not-true (c .before .stale .result) (c .if1 .taken))
+    none-outlived s h t n (a .mark) (k .result) (k .ensures ∙ sym (entries-count s h t n)) (sym (c .before .stale .ensures) ∙ not-true (c .before .stale .result) (c .if1 .taken))
 
 pub purge-spec : {M : Type 1} → statement M
 purge-spec =

@@ -15,7 +15,7 @@ use Rattle.rules.specs.declared.Operation.the-variants.{Read, Write, Look, Rais
 use Rattle.rules.proofs.Operation.{the-type}
 use Rattle.lemmas.specs.Lists.{part}
 use Rattle.digest.specs.Hmac.{hmac}
-use Rattle.keyring.specs.Keys.{isSet, keyIndex, targetIndex, keyStored}
+use Rattle.keyring.specs.Keys.{keysSize, keyCount, keySize, isSet, keyIndex, targetIndex, keyStored}
 use Rattle.keyring.specs.KeyLaws.{set-there}
 use Rattle.set_key.specs.Keys.{keysAfter}
 use Rattle.set_key.proofs.apply.Statement.{statement}
@@ -46,23 +46,23 @@ module _ (target slot p j : ℕ) (signed ks : List ℕ) (e : j ≡ keyIndex slot
   unset : isSet ks j ≡ false → ks ≡ keysAfter (SetKey target) slot p signed ks
   unset h = rw (rw e at h) refl
 
-  put : (new s : List ℕ) → isSet ks j ≡ true → new ≡ hmac (take (32 * j + 32 - 32 * j) (drop (32 * j) ks)) signed
+  put : (new s : List ℕ) → isSet ks j ≡ true → new ≡ hmac (take (keySize * j + keySize - keySize * j) (drop (keySize * j) ks)) signed
       → s ≡ keyStored (targetIndex slot p target) new ks → s ≡ keysAfter (SetKey target) slot p signed ks
   unfolding part
   put new s h n k =
-      let c : 32 * j + 32 - 32 * j ≡ 32 = omega arith in
+      let c : keySize * j + keySize - keySize * j ≡ keySize = omega arith in
       k ∙ (rw (rw e at h, rw (c, e) at n) refl)
 
 there : (t : tie.Else1) → let a = t .before .before .before .before .before .before .before .before .before .args in
     isSet (a .keys .now) (t .before .before .before .key-index .result) ≡ true
 there t = sym (t .before .is-set .ensures) ∙ not-false (t .before .is-set .result) (t .if1 .left)
 
-low : (t : tie.Else1) → t .before .before .before .key-index .result < 14
+low : (t : tie.Else1) → t .before .before .before .key-index .result < keyCount
 low t =
     let a = t .before .before .before .before .before .before .before .before .before .args in
     set-there (a .keys .now) (t .before .before .before .key-index .result) (there t) .1
 
-long : (t : tie.Else1) → length (t .before .before .before .before .before .before .before .before .before .args .keys .now) ≡ 462
+long : (t : tie.Else1) → length (t .before .before .before .before .before .before .before .before .before .args .keys .now) ≡ keysSize
 long t =
     let a = t .before .before .before .before .before .before .before .before .before .args in
     set-there (a .keys .now) (t .before .before .before .key-index .result) (there t) .0

@@ -1,4 +1,4 @@
--- free tells of the places under i (each-more); those from n on count as clear (each-first).
+-- free tells of the places under i (each-more); those from n on count as clear (each-placed).
 use mathlib.Core.Path.{_≡_, refl, _∙_}
 use mathlib.Core.Bool.{_||_}
 use Prim.Native.Nat.{ℕ, _-_, _≤_}
@@ -6,8 +6,10 @@ use native.Mathlib.Omega.{arith}
 use lib.Dec.{leb}
 use lib.ListN.{getD}
 use borrow.Author.Needs.{needs}
+use Rattle.rules.specs.Drive.{mostObjects}
+use Rattle.state.specs.Table.{range}
 use Rattle.soundness.specs.Spans.{clearAt, each, each-more}
-use Rattle.soundness.proofs.Places.{passed, each-first}
+use Rattle.soundness.proofs.Places.{each-placed}
 use Rattle.soundness.proofs.all_clear.Statement.{statement}
 use Rattle.soundness.proofs.all_clear.Tie as tie
 
@@ -27,13 +29,13 @@ loop-again c =
     let l = c .before .before .loop in
     let a = c .before .before .before .before .before .before .args in
     let t = clearAt (a .numbers .now) (a .starts .now) (a .ends .now) in
-    (search needs, rw (each-more (passed t (a .n)) (l .i), l .inv .1, c .is-clear .ensures))
+    (search needs, rw (each-more (λ (k : ℕ). leb (a .n) (getD (range 0 mostObjects) k 0) || t k) (l .i), l .inv .1, c .is-clear .ensures))
 
 returns : tie.Need-returns Inv-loop μ-loop
 returns c =
     let l = c .before .loop in
     let a = c .before .before .before .before .before .args in
-    l .inv .1 ∙ each-first (clearAt (a .numbers .now) (a .starts .now) (a .ends .now)) (a .n) (l .i) (omega arith) (omega arith)
+    l .inv .1 ∙ each-placed (clearAt (a .numbers .now) (a .starts .now) (a .ends .now)) (a .n) (l .i) (omega arith) (omega arith)
 
 pub all-clear-spec : {M : Type 1} → statement M
 all-clear-spec =

@@ -15,13 +15,14 @@ use Rattle.soundness.specs.Spans.{endAt, endsOf, narrowAt, each, each-mo
 use Rattle.soundness.proofs.Places.{place-is}
 use Rattle.soundness.proofs.ends_of.Statement.{statement}
 use Rattle.soundness.proofs.ends_of.Tie as tie
+use Rattle.rules.specs.Drive.{mostObjects}
 
 abbrev Inv-loop : tie.InvT-loop
 Inv-loop starts sizes r₀ i₀ r i =
-    (i ≤ 16) × (length r ≡ 16) × (take i r ≡ map (endAt starts sizes) (take i (range 0 16))) × (each (narrowAt sizes) i ≡ true)
+    (i ≤ mostObjects) × (length r ≡ mostObjects) × (take i r ≡ map (endAt starts sizes) (take i (range 0 mostObjects))) × (each (narrowAt sizes) i ≡ true)
 
 abbrev μ-loop : tie.MeasureT-loop
-μ-loop starts sizes r₀ i₀ r i = 16 - i
+μ-loop starts sizes r₀ i₀ r i = mostObjects - i
 
 loop-holds : tie.Need-loop-holds Inv-loop μ-loop
 unfolding each
@@ -34,10 +35,10 @@ loop-again c =
     let starts = a .starts .now in
     let sizes = a .sizes .now in
     let e = c .end-of .ensures in
-    let h : l .i < 16 = omega arith in (
+    let h : l .i < mostObjects = omega arith in (
       search needs,
       search needs,
-      map-took (endAt starts sizes) (range 0 16) (l .r) (l .i) 0 (c .end-of .result) h (omega arith) (l .inv .2) (e .0 ∙ ap (endAt starts sizes) (sym (place-is (l .i) h))),
+      map-took (endAt starts sizes) (range 0 mostObjects) (l .r) (l .i) 0 (c .end-of .result) h (omega arith) (l .inv .2) (e .0 ∙ ap (endAt starts sizes) (sym (place-is (l .i) h))),
       each-more (narrowAt sizes) (l .i) ∙ both (l .inv .3) (lt-ltb (getD sizes (l .i) 0) (2 ^ 32) (e .1)),
     )
 
@@ -45,8 +46,8 @@ returns : tie.Need-returns Inv-loop μ-loop
 unfolding endsOf
 returns c =
     let l = c .before .loop in
-    let e : l .i ≡ 16 = omega arith in
-    (sym (take-all 16 (l .r) (omega arith)) ∙ rw e at (l .inv .2), rw e at (l .inv .3))
+    let e : l .i ≡ mostObjects = omega arith in
+    (sym (take-all mostObjects (l .r) (omega arith)) ∙ rw e at (l .inv .2), rw e at (l .inv .3))
 
 pub ends-of-spec : {M : Type 1} → statement M
 ends-of-spec =

@@ -1,42 +1,44 @@
--- hit tells of the places under i (below-more).
+-- hit tells of the places under i (each-more).
 use mathlib.Core.Path.{_≡_, refl, ap, _∙_}
-use mathlib.Core.Bool.{Bool, not, _&&_}
-use mathlib.Core.List.{List}
+use mathlib.Core.Bool.{not, _&&_, _||_}
 use Prim.Native.Nat.{ℕ, _-_, _≤_}
 use native.Mathlib.Omega.{arith}
+use lib.Dec.{leb}
 use borrow.Author.Needs.{needs}
 use Rattle.lemmas.specs.Tests.{_under_}
-use Rattle.soundness.specs.Spans.{below, clashAt, below-more}
+use Rattle.rules.specs.Drive.{mostObjects}
+use Rattle.soundness.specs.Spans.{each, each-more, clashAt}
+use Rattle.soundness.proofs.Clear.{not-or, not-and, not-under}
 use Rattle.soundness.proofs.is_clear.Statement.{statement}
 use Rattle.soundness.proofs.is_clear.Tie as tie
 
 abbrev Inv-loop : tie.InvT-loop
 Inv-loop numbers starts ends n number start end hit₀ i₀ hit i =
-    (i ≤ 16) × (hit ≡ below (λ (k : ℕ). k under n && clashAt numbers starts ends n k) i)
+    (i ≤ mostObjects) × (not hit ≡ each (λ (k : ℕ). leb n k || not (clashAt numbers starts ends n k)) i)
 
 abbrev μ-loop : tie.MeasureT-loop
-μ-loop numbers starts ends n number start end hit₀ i₀ hit i = 16 - i
+μ-loop numbers starts ends n number start end hit₀ i₀ hit i = mostObjects - i
 
 loop-holds : tie.Need-loop-holds Inv-loop μ-loop
-unfolding below
+unfolding each
 loop-holds c = (search needs, refl)
-
--- whether place k stands before n and clashes with it
-abbrev met : List ℕ → List ℕ → List ℕ → ℕ → ℕ → Bool
-met numbers starts ends n k = k under n && clashAt numbers starts ends n k
 
 loop-again : tie.Need-loop-again Inv-loop μ-loop
 loop-again c =
     let l = c .before .before .before .before .loop in
     let a = c .before .before .before .before .before .before .before .before .args in
-    (search needs, rw (below-more (met (a .numbers .now) (a .starts .now) (a .ends .now) (a .n)) (l .i), l .inv .1))
+    let clashes = clashAt (a .numbers .now) (a .starts .now) (a .ends .now) (a .n) in (
+      search needs,
+      not-or (l .hit) (l .i under a .n && clashes (l .i))
+          ∙ rw (each-more (λ (k : ℕ). leb (a .n) k || not (clashes k)) (l .i), l .inv .1, not-and (l .i under a .n) (clashes (l .i)), not-under (l .i) (a .n)) refl,
+    )
 
 returns : tie.Need-returns Inv-loop μ-loop
 returns c =
     let l = c .before .loop in
     let a = c .before .before .before .before .before .args in
-    let e : l .i ≡ 16 = omega arith in
-    ap not (l .inv .1 ∙ ap (below (met (a .numbers .now) (a .starts .now) (a .ends .now) (a .n))) e)
+    let e : l .i ≡ mostObjects = omega arith in
+    l .inv .1 ∙ ap (each (λ (k : ℕ). leb (a .n) k || not (clashAt (a .numbers .now) (a .starts .now) (a .ends .now) (a .n) k))) e
 
 pub is-clear-spec : {M : Type 1} → statement M
 is-clear-spec =

@@ -11,12 +11,14 @@ use Rattle.lemmas.specs.Tests.{and-l}
 use Rattle.soundness.proofs.Table.{table-sound}
 use Rattle.soundness.proofs.sound_table.Statement.{statement}
 use Rattle.soundness.proofs.sound_table.Tie as tie
+use Rattle.state.specs.Table.{tableSize, countAt}
+use Rattle.rules.specs.Drive.{mostObjects}
 
 returns : tie.Need-returns
-returns c = (rw (ne-eqb (length (c .before .before .args .table .now)) 67 (c .if1 .taken)) refl, λ h. absurd (false≢true h))
+returns c = (rw (ne-eqb (length (c .before .before .args .table .now)) tableSize (c .if1 .taken)) refl, λ h. absurd (false≢true h))
 
 cast-smaller : tie.Need-cast-smaller
-cast-smaller c = omega (arith, c .shared-slice-known2 .given 2)
+cast-smaller c = omega (arith, c .shared-slice-known2 .given countAt)
 
 small-of : (t : tie.Start) → t .args .quarter < 2 ^ 32
 small-of t = search needs
@@ -29,10 +31,10 @@ returns-2 c =
     let start = smaller .before .before .before .before in
     let a = start .args in
     let t = a .table .now in
-    let count = leb (getD t 2 0) 16 in (
+    let count = leb (getD t countAt 0) mostObjects in (
       rw (c .all-sound .ensures, clear .all-clear .ensures)
           (table-sound (a .quarter) (small-of start) t (smaller .before .before .if1 .left) (ends .ends-of .result) (ends .ends-of .ensures .0) (ends .ends-of .ensures .1) (smaller .smaller .result) (smaller .smaller .ensures)),
-      λ h. leb-true (getD t 2 0) 16 (and-l count (c .all-sound .result) (and-l (count && c .all-sound .result) (clear .all-clear .result) h)),
+      λ h. leb-true (getD t countAt 0) mostObjects (and-l count (c .all-sound .result) (and-l (count && c .all-sound .result) (clear .all-clear .result) h)),
     )
 
 pub sound-table-spec : {M : Type 1} → statement M
@@ -42,6 +44,6 @@ sound-table-spec =
     returns (λ c. search needs) cast-smaller (λ c κs. search needs)
     (λ c. search needs) (λ c. search needs) (λ c. search needs) (λ c. search needs) (λ c. search needs) (λ c. search needs) (λ c κs. search needs)
     (λ c. search needs) (λ c. search needs) (λ c. search needs) (λ c. search needs) (λ c. search needs) (λ c. search needs) (λ c. search needs) (λ c κs. search needs)
-    (λ c. search needs)
+    (λ c. search needs) (λ c. search needs)
     (λ c. search needs) (λ c. search needs) (λ c. search needs) (λ c. search needs) (λ c. search needs) (λ c. search needs) (λ c. search needs)
     (λ c. search needs) (λ c. search needs) (λ c. search needs) (λ c. search needs) (λ c κs. search needs) returns-2)

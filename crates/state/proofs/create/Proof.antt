@@ -6,12 +6,13 @@ use borrow.Author.Needs.{needs}
 use Rattle.state.specs.Steps.{unchanged, changed-table, created-room, created-full}
 use Rattle.state.proofs.create.Statement.{statement}
 use Rattle.state.proofs.create.Tie as tie
+use Rattle.state.specs.Table.{countAt, lastAt}
 
 returns : tie.Need-returns
 returns c = unchanged _ _ (c .if1 .taken)
 
 cast-n : tie.Need-cast-n
-cast-n c = omega (arith, c .slice-known2 .given 2)
+cast-n c = omega (arith, c .slice-known2 .given countAt)
 
 returns-2 : tie.Need-returns-2
 returns-2 c =
@@ -23,7 +24,7 @@ returns-2 c =
 long : (c : tie.After-put) → length (c .put .last .0) ≡ length (c .before .before .before .before .before .before .args .table .now)
 long c =
     let a = c .before .before .before .before .before .before .args in
-    c .put .ensures .long ∙ length-set (a .table .now) 1 (a .o .version)
+    c .put .ensures .long ∙ length-set (a .table .now) lastAt (a .o .version)
 
 slice-write-table-2 : tie.Need-slice-write-table-2
 slice-write-table-2 c =
@@ -32,7 +33,7 @@ slice-write-table-2 c =
     omega arith
 
 same-length-2 : tie.Need-same-length-2
-same-length-2 c = length-set (c .before .before .put .last .0) 2 _ ∙ long (c .before .before)
+same-length-2 c = length-set (c .before .before .put .last .0) countAt _ ∙ long (c .before .before)
 
 returns-3 : tie.Need-returns-3
 returns-3 c =

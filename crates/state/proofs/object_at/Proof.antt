@@ -5,7 +5,8 @@ use native.Mathlib.Omega.{arith}
 use lib.ListN.{length, List·getD-eq-default}
 use borrow.Author.Needs.{needs}
 use Rattle.rules.specs.Operations.{noObject}
-use Rattle.state.specs.Table.{objectsIn, objectAt}
+use Rattle.rules.specs.Drive.{mostObjects}
+use Rattle.state.specs.Table.{tableSize, objectsIn, objectAt}
 use Rattle.state.specs.Places.{objects-at, objects-table}
 use Rattle.state.proofs.object_at.Statement.{statement}
 use Rattle.state.proofs.object_at.Tie as tie
@@ -18,7 +19,7 @@ returns c =
 
 -- before the last, and so in a table
 inside : (t : tie.Else1) → let a = t .before .before .before .args in
-    (a .i < length (objectsIn (a .table .now))) × (a .i < 16) × (length (a .table .now) ≡ 67)
+    (a .i < length (objectsIn (a .table .now))) × (a .i < mostObjects) × (length (a .table .now) ≡ tableSize)
 inside t =
     let a = t .before .before .before .args in
     let n = t .before .object-count .ensures in

@@ -4,7 +4,7 @@ use native.Mathlib.Omega.{arith}
 use lib.ListN.{length}
 use borrow.Author.Needs.{needs}
 use borrow.Author.Tests.{ne-eqb}
-use Rattle.state.specs.Table.{countIn}
+use Rattle.state.specs.Table.{tableSize, countAt, countIn}
 use Rattle.state.specs.Places.{objects-length, count-is}
 use Rattle.state.proofs.object_count.Statement.{statement}
 use Rattle.state.proofs.object_count.Tie as tie
@@ -13,11 +13,11 @@ returns : tie.Need-returns
 returns c =
     let t = c .before .before .args .table .now in
     let n = objects-length t in
-    let z : countIn t ≡ 0 = rw (ne-eqb (length t) 67 (c .if1 .taken)) refl in
+    let z : countIn t ≡ 0 = rw (ne-eqb (length t) tableSize (c .if1 .taken)) refl in
     (omega arith, omega arith)
 
 cast-smaller : tie.Need-cast-smaller
-cast-smaller c = omega (arith, c .shared-slice-known2 .given 2)
+cast-smaller c = omega (arith, c .shared-slice-known2 .given countAt)
 
 returns-2 : tie.Need-returns-2
 returns-2 c =

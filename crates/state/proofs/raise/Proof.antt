@@ -5,6 +5,7 @@ use borrow.Author.Needs.{needs}
 use Rattle.state.specs.Steps.{unchanged, changed-table, raised-partition, raised-object}
 use Rattle.state.proofs.raise.Statement.{statement}
 use Rattle.state.proofs.raise.Tie as tie
+use Rattle.state.specs.Table.{lastAt}
 
 returns : tie.Need-returns
 returns c = unchanged _ _ (c .if1 .taken)
@@ -18,7 +19,7 @@ returns-2 c =
 same-length-2 : tie.Need-same-length-2
 same-length-2 c =
     let a = c .before .before .before .before .before .before .before .args in
-    c .before .before .renew .ensures .long ∙ length-set (a .table .now) 1 _
+    c .before .before .renew .ensures .long ∙ length-set (a .table .now) lastAt _
 
 returns-3 : tie.Need-returns-3
 returns-3 c =

@@ -3,20 +3,20 @@ use mathlib.Core.Path.{_≡_}
 use Prim.Native.Nat.{_-_, _≤_, _<_}
 use native.Mathlib.Omega.{arith}
 use lib.ListN.{length, take}
-use lib.Seq.{take-all}
 use borrow.Author.Needs.{needs}
 use Rattle.lemmas.specs.Lists.{change}
 use Rattle.rules.specs.declared.Object.{Object}
 use Rattle.rules.specs.Operations.{withVersion}
-use Rattle.state.specs.Table.{objectsIn}
+use Rattle.rules.specs.Drive.{mostObjects}
+use Rattle.state.specs.Table.{places, tableSize, objectsIn}
 use Rattle.state.specs.Changes.{HasContent, contentWithFront}
-use Rattle.state.specs.Steps.{content-same, renewed-one, renewed-none}
+use Rattle.state.specs.Steps.{content-same, objects-all, renewed-one, renewed-none}
 use Rattle.state.proofs.renew.Statement.{statement}
 use Rattle.state.proofs.renew.Tie as tie
 
 abbrev Inv-loop : tie.InvT-loop
 Inv-loop table₀ number version n i₀ table i =
-    (i ≤ n) × (HasContent table₀ table (contentWithFront (change Object.number number (withVersion version) (take i (objectsIn table₀))) table₀))
+    (i ≤ n) × (HasContent table₀ table (contentWithFront (change Object.number number (withVersion version) (take i (places table₀))) table₀))
 
 abbrev μ-loop : tie.MeasureT-loop
 μ-loop table₀ number version n i₀ table i = n - i
@@ -26,7 +26,7 @@ unfolding change
 loop-holds c = (search needs, content-same (c .before .before .before .args .table .now))
 
 -- the table is as long as it was, and place i is an object's
-inside : (c : tie.In-loop Inv-loop μ-loop) → (length (c .before .loop .table) ≡ 67) × (c .before .loop .i < 16)
+inside : (c : tie.In-loop Inv-loop μ-loop) → (length (c .before .loop .table) ≡ tableSize) × (c .before .loop .i < mostObjects)
     × (c .before .loop .i < length (objectsIn (c .before .before .before .before .before .args .table .now)))
 inside c =
     let l = c .before .loop .inv .1 .long in
@@ -65,7 +65,7 @@ returns c =
     let l = c .before .loop in
     let t = c .before .before .before .before .before .args .table .now in
     let n = c .before .before .object-count .ensures in
-    rw (take-all (l .i) (objectsIn t) (omega arith)) at (l .inv .1)
+    rw (objects-all t (l .i) (omega arith)) at (l .inv .1)
 
 pub renew-spec : {M : Type 1} → statement M
 renew-spec =

@@ -1,4 +1,6 @@
 -- Nothing in it but the keys: every part as its function gave it.
+use mathlib.Core.List.{zipWith}
+use Rattle.lemmas.specs.Chunks.{chunks}
 use Rattle.state.specs.Padded.{padded}
 use Rattle.drive.specs.View.{view, memoriesIn}
 use borrow.Author.Needs.{needs}
@@ -6,7 +8,7 @@ use Rattle.drive.proofs.formatting.new_drive.Statement.{statement}
 use Rattle.drive.proofs.formatting.new_drive.Tie as tie
 
 returns : tie.Need-returns
-unfolding view memoriesIn padded
+unfolding view memoriesIn padded zipWith chunks
 returns c = rw (c .unused-tables .ensures)
 
 pub new-drive-spec : {M : Type 1} → statement M

@@ -2,13 +2,13 @@
 use mathlib.Core.Path.{refl}
 use Rattle.state.specs.Padded.{padded}
 use Rattle.state.specs.Table.{partitionView}
-use Rattle.drive.specs.View.{tablesIn}
+use Rattle.lemmas.specs.Chunks.{chunks}
 use borrow.Author.Needs.{needs}
 use Rattle.drive.proofs.formatting.unused_tables.Statement.{statement}
 use Rattle.drive.proofs.formatting.unused_tables.Tie as tie
 
 returns : tie.Need-returns
-unfolding partitionView padded tablesIn
+unfolding partitionView padded chunks
 returns c = refl
 
 pub unused-tables-spec : {M : Type 1} → statement M

@@ -1,15 +1,16 @@
--- The first m memories are without outlived entries (turn, memory-dropped); the places of a memory are one part of each array.
+-- The first m memories are without outlived entries (front-map, purged-at); the places of a memory are one part of each array.
 use mathlib.Core.Path.{_≡_, refl, _∙_}
-use mathlib.Core.List.{List, []}
+use mathlib.Core.List.{List, [], map}
 use Prim.Native.Nat.{ℕ, _+_, _-_, _*_, _≤_, _<_}
 use native.Mathlib.Omega.{arith}
-use lib.ListN.{length, getD}
+use lib.ListN.{length, getD, take, length-map}
+use lib.Seq.{take-all}
 use Rattle.lemmas.specs.Lists.{keep}
+use Rattle.lemmas.specs.Fronts.{withFront, front-map, front-all}
 use Rattle.rules.specs.declared.Entry.{Entry}
 use Rattle.rules.specs.Drive.{lives, mostEntries}
-use Rattle.memory.specs.Memory.{entriesIn}
+use Rattle.memory.specs.Memory.{memoryCount, entriesIn}
 use Rattle.drive.specs.View.{memoriesIn, MemoriesFit}
-use Rattle.drive.proofs.Turned.{turned, turned-all, turn}
 use Rattle.drive.proofs.Memories.{memories-length, short-at, purged-at, placed-still}
 use borrow.Author.Needs.{needs}
 use Rattle.drive.proofs.replay.drop_outlived.Statement.{statement}
@@ -17,19 +18,19 @@ use Rattle.drive.proofs.replay.drop_outlived.Tie as tie
 
 abbrev Inv-loop : tie.InvT-loop
 Inv-loop lengths₀ slots₀ holders₀ times₀ counts₀ mark m₀ lengths slots holders times counts m =
-    (m ≤ 5) × MemoriesFit lengths slots holders times counts
-    × (memoriesIn lengths (entriesIn slots holders times counts) ≡ turned (keep (lives mark)) m (memoriesIn lengths₀ (entriesIn slots₀ holders₀ times₀ counts₀)))
+    (m ≤ memoryCount) × MemoriesFit lengths slots holders times counts
+    × (memoriesIn lengths (entriesIn slots holders times counts) ≡ withFront (map (keep (lives mark)) (take m (memoriesIn lengths₀ (entriesIn slots₀ holders₀ times₀ counts₀))))
+    (memoriesIn lengths₀ (entriesIn slots₀ holders₀ times₀ counts₀)))
 
 abbrev μ-loop : tie.MeasureT-loop
-μ-loop lengths₀ slots₀ holders₀ times₀ counts₀ mark m₀ lengths slots holders times counts m = 5 - m
+μ-loop lengths₀ slots₀ holders₀ times₀ counts₀ mark m₀ lengths slots holders times counts m = memoryCount - m
 
 loop-holds : tie.Need-loop-holds Inv-loop μ-loop
-unfolding turned
 loop-holds c = (search needs, c .before .before .before .before .before .pre, refl)
 
 -- memory m is one of five, and its places are within the arrays
 inside : (t : tie.After-slice-known6 Inv-loop μ-loop) → let l = t .before .before .loop in
-    (l .m < 5) × (getD (l .lengths) (l .m) 0 ≤ mostEntries)
+    (l .m < memoryCount) × (getD (l .lengths) (l .m) 0 ≤ mostEntries)
 inside t =
     let l = t .before .before .loop in
     (omega (arith, t .before .loop-test .taken), short-at (l .lengths) (l .m) (l .inv .1 .entries))
@@ -77,10 +78,10 @@ slice-write-lengths : tie.Need-slice-write-lengths Inv-loop μ-loop
 slice-write-lengths c = slice-read-end (c .before .before .before .before .before .before .before .before .before .before .before .before .before)
 
 add-m : tie.Need-add-m Inv-loop μ-loop
-add-m c = let h : c .before .before .before .before .before .before .before .before .before .before .before .before .before .before .before .loop .m < 5 = inside (c .before .before .before .before .before .before .before .before .before .before .before .before .before) .0 in search needs
+add-m c = let h : c .before .before .before .before .before .before .before .before .before .before .before .before .before .before .before .loop .m < memoryCount = inside (c .before .before .before .before .before .before .before .before .before .before .before .before .before) .0 in search needs
 
 loop-less : tie.Need-loop-less Inv-loop μ-loop
-loop-less c = let h : c .before .before .before .before .before .before .before .before .before .before .before .before .before .before .before .loop .m < 5 = inside (c .before .before .before .before .before .before .before .before .before .before .before .before .before) .0 in omega (arith, h)
+loop-less c = let h : c .before .before .before .before .before .before .before .before .before .before .before .before .before .before .before .loop .m < memoryCount = inside (c .before .before .before .before .before .before .before .before .before .before .before .before .before) .0 in omega (arith, h)
 
 loop-again : tie.Need-loop-again Inv-loop μ-loop
 loop-again c =
@@ -89,15 +90,15 @@ loop-again c =
     let w = c .before .before .before .before .before .before .before .before .before .before .before .before .before .before .before .before .before .before .before .before .before .pre in
     let h = inside (c .before .before .before .before .before .before .before .before .before .before .before .before .before) in
     let p = c .before .before .before .before .before .before .before .before .purge in
-    let size : ℕ = 64 * l .m + getD (l .lengths) (l .m) 0 - 64 * l .m in
+    let size : ℕ = mostEntries * l .m + getD (l .lengths) (l .m) 0 - mostEntries * l .m in
     let whole : size ≡ getD (l .lengths) (l .m) 0 = omega arith in
     let old : List (List Entry) = memoriesIn (a .lengths .now) (entriesIn (a .slots .now) (a .holders .now) (a .times .now) (a .counts .now)) in
-    let five : length old ≡ 5 = memories-length (a .lengths .now) (entriesIn (a .slots .now) (a .holders .now) (a .times .now) (a .counts .now)) ∙ w .five in
+    let five : length old ≡ memoryCount = memories-length (a .lengths .now) (entriesIn (a .slots .now) (a .holders .now) (a .times .now) (a .counts .now)) ∙ w .five in
     let now : List (List Entry) = memoriesIn (l .lengths) (entriesIn (l .slots) (l .holders) (l .times) (l .counts)) in (
       omega (arith, h .0),
       placed-still (l .lengths) (l .slots) (l .holders) (l .times) (l .counts) (l .inv .1) (l .m) (h .0) (a .mark) size (p .result) whole (p .last .0) (p .last .1 .0) (p .last .1 .1 .0) (p .last .1 .1 .1 .0) (p .ensures),
       purged-at (l .lengths) (l .slots) (l .holders) (l .times) (l .counts) (l .inv .1) (l .m) (h .0) (a .mark) size (p .result) whole (p .last .0) (p .last .1 .0) (p .last .1 .1 .0) (p .last .1 .1 .1 .0) (p .ensures)
-          ∙ turn (keep (lives (a .mark))) old now (l .m) [] (keep (lives (a .mark)) (getD now (l .m) [])) (omega (arith, h .0)) (l .inv .2) refl,
+          ∙ front-map (keep (lives (a .mark))) old now (l .m) [] (omega (arith, h .0)) (l .inv .2),
     )
 
 returns : tie.Need-returns Inv-loop μ-loop
@@ -106,8 +107,8 @@ returns c =
     let a = c .before .before .before .before .before .before .before .args in
     let w = c .before .before .before .before .before .before .before .pre in
     let old : List (List Entry) = memoriesIn (a .lengths .now) (entriesIn (a .slots .now) (a .holders .now) (a .times .now) (a .counts .now)) in
-    let five : length old ≡ 5 = memories-length (a .lengths .now) (entriesIn (a .slots .now) (a .holders .now) (a .times .now) (a .counts .now)) ∙ w .five in
-    (l .inv .2 ∙ turned-all (keep (lives (a .mark))) (l .m) old (omega arith), l .inv .1)
+    let five : length old ≡ memoryCount = memories-length (a .lengths .now) (entriesIn (a .slots .now) (a .holders .now) (a .times .now) (a .counts .now)) ∙ w .five in
+    (l .inv .2 ∙ rw (take-all (l .m) old (omega arith)) (front-all (map (keep (lives (a .mark))) old) old (omega (arith, length-map old (keep (lives (a .mark)))))), l .inv .1)
 
 pub drop-outlived-spec : {M : Type 1} → statement M
 drop-outlived-spec =

@@ -6,7 +6,7 @@ use native.Mathlib.Omega.{arith}
 use lib.ListN.{getD}
 use Rattle.lemmas.specs.Lists.{some?}
 use Rattle.rules.specs.declared.Entry.{Entry}
-use Rattle.rules.specs.Drive.{sameEntry}
+use Rattle.rules.specs.Drive.{mostEntries, sameEntry}
 use Rattle.drive.proofs.Memories.{short-at, part-at}
 use borrow.Author.Needs.{needs}
 use Rattle.drive.proofs.replay.is_replayed.Statement.{statement}
@@ -51,7 +51,7 @@ returns : tie.Need-returns
 returns c =
     let a = c .before .before .before .before .before .before .before .before .before .before .before .args in
     let pre = c .before .before .before .before .before .before .before .before .before .before .before .pre in
-    let size : ℕ = 64 * a .k + getD (a .lengths .now) (a .k) 0 - 64 * a .k in
+    let size : ℕ = mostEntries * a .k + getD (a .lengths .now) (a .k) 0 - mostEntries * a .k in
     let whole : size ≡ getD (a .lengths .now) (a .k) 0 = omega arith in
     c .holds .ensures
     ∙ ap (λ (l : List Entry). some? (sameEntry (a .nonce)) l)

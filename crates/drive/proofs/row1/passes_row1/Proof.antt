@@ -1,5 +1,5 @@
 -- Row 1's test, part by part.
-use mathlib.Core.Bool.{true, _&&_, false≢true}
+use mathlib.Core.Bool.{_&&_, false≢true}
 use native.Mathlib.Omega.{arith}
 use borrow.Author.Tests.{le-leb, lt-leb}
 use Rattle.lemmas.specs.Tests.{_is_, and-l}

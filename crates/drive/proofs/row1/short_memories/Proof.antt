@@ -10,12 +10,13 @@ use Rattle.drive.specs.View.{entriesFit}
 use borrow.Author.Needs.{needs}
 use Rattle.drive.proofs.row1.short_memories.Statement.{statement}
 use Rattle.drive.proofs.row1.short_memories.Tie as tie
+use Rattle.memory.specs.Memory.{memoryCount}
 
 abbrev Inv-loop : tie.InvT-loop
-Inv-loop lengths r₀ i₀ r i = (i ≤ 5) × (r ≡ every entriesFit (take i lengths))
+Inv-loop lengths r₀ i₀ r i = (i ≤ memoryCount) × (r ≡ every entriesFit (take i lengths))
 
 abbrev μ-loop : tie.MeasureT-loop
-μ-loop lengths r₀ i₀ r i = 5 - i
+μ-loop lengths r₀ i₀ r i = memoryCount - i
 
 loop-holds : tie.Need-loop-holds Inv-loop μ-loop
 unfolding every
