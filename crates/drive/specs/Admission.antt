@@ -1,5 +1,5 @@
--- What the code has of the Scope of a frame: the facts (of the memory two), the keys' bytes and the partition's table; and
--- what `admit` asks and promises of them.
+-- What the code has of the Scope of a frame: the facts (of the memory two), the keys' bytes and the partition's
+-- table; and what `admit` asks and promises of them.
 -- x: the frame's fields. s: the facts. ks: the keys. t: the partition's table. l: the memory's entries.
 -- m: the medium. f: the frame.
 use mathlib.Core.Path.{_≡_}
@@ -50,7 +50,8 @@ scopeAnswer s m x space =
     let row = firstRow (driveRows s x space) in
     cond (row is 0) (granted s m x space) (refused row s m space)
 
--- where a grant works, of a medium of so many bytes: `found` is the object that the credential names, `place` a new extent's
+-- where a grant works, of a medium of so many bytes: `found` is the object that the credential names, `place` a new
+-- extent's
 unfoldable pub grantContext : ℕ → rules.Partition Object → Credential → Lookup → Option ℕ → GrantContext
 grantContext size p c found place = record {
   quarterstart = c .partition * quarter size;
@@ -66,7 +67,8 @@ grantContext size p c found place = record {
 pub record ParsedTo (f : List ℕ) (c : Credential) (request : ParsedRequest) : Type 0 where
   pub answer : answerOf (Parsed·Fields c request) ≡ frameAnswer f
 
--- what `admit` asks: the facts, the keys and a sound table, with the entries of a memory, of a medium and a parsed frame
+-- what `admit` asks: the facts, the keys and a sound table, with the entries of a memory, of a medium and a parsed
+-- frame
 pub record AdmitRequires (s : ScopeFacts) (ks t : List ℕ) (l : List Entry) (m f : List ℕ) (c : Credential)
     (request : ParsedRequest) : Type 0 where
   pub parsed : ParsedTo f c request
@@ -79,14 +81,15 @@ pub record AdmitRequires (s : ScopeFacts) (ks t : List ℕ) (l : List Entry) (m 
   pub keys : length ks ≡ keysSize
   pub table : length t ≡ tableSize
 
--- an outcome is the rules' answer to the frame f, of the scope s, the medium m and the reply space lent; and at a grant the key in
--- the frame's slot is set, and the next version and the new extent's start are those that operation o puts into the table
-pub record OutcomeMet (s : Scope Object) (m f lent : List ℕ) (o : Operation) (r : Outcome) (after replied : List ℕ) : Type 0
-  where
-    pub row : r .row ≡ scopeAnswer s m (fields f) lent .row
-    pub length : r .length ≡ scopeAnswer s m (fields f) lent .length
-    pub medium : after ≡ scopeAnswer s m (fields f) lent .medium
-    pub space : replied ≡ scopeAnswer s m (fields f) lent .space
-    pub set : r .row ≡ 0
-        → keyIn (s .keys) (fields f .cred .partition) (fields f .cred .slot) ≡ some (signing (s .keys) (fields f))
-    pub fits : r .row ≡ 0 → ChangeFits o s (r .nextversion) (r .newstart)
+-- an outcome is the rules' answer to the frame f, of the scope s, the medium m and the reply space lent; and at a grant
+-- the key in the frame's slot is set, and the next version and the new extent's start are those that operation o puts
+-- into the table
+pub record OutcomeMet (s : Scope Object) (m f lent : List ℕ) (o : Operation) (r : Outcome)
+    (after replied : List ℕ) : Type 0 where
+  pub row : r .row ≡ scopeAnswer s m (fields f) lent .row
+  pub length : r .length ≡ scopeAnswer s m (fields f) lent .length
+  pub medium : after ≡ scopeAnswer s m (fields f) lent .medium
+  pub space : replied ≡ scopeAnswer s m (fields f) lent .space
+  pub set : r .row ≡ 0
+      → keyIn (s .keys) (fields f .cred .partition) (fields f .cred .slot) ≡ some (signing (s .keys) (fields f))
+  pub fits : r .row ≡ 0 → ChangeFits o s (r .nextversion) (r .newstart)

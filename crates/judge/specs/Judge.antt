@@ -1,6 +1,7 @@
--- Rows 10 to 23 as the code makes them, of one partition's table and two facts of one replay memory: they are document 01's.
--- p: the partition. c, r: the numbers of credential and request. found: the object that the credential names. place: where a
--- new extent starts. room: the length of the reply space.
+-- Rows 10 to 23 as the code makes them, of one partition's table and two facts of one replay memory: they are
+-- document 01's.
+-- p: the partition. c, r: the numbers of credential and request. found: the object that the credential names.
+-- place: where a new extent starts. room: the length of the reply space.
 use mathlib.Core.Path.{_≡_, refl, ap, _∙_}
 use mathlib.Core.Bool.{Bool, true, false, not, _&&_, cond}
 use mathlib.Core.Option.{Option, none}
@@ -78,8 +79,8 @@ roomRow p held r place length room =
 
 -- ---- what the code knows of a Scope s and of a request: the facts, the partition, the operation, the object that the
 -- credential names, where a new extent would start, and the reply's length
-pub record FactsHold (s : Scope Object) (facts : ScopeFacts) (p : rules.Partition Object) (c : Credential) (o : Operation)
-    (r : Request) (found : Lookup) (place : Option ℕ) (length : ℕ) : Type 0 where
+pub record FactsHold (s : Scope Object) (facts : ScopeFacts) (p : rules.Partition Object) (c : Credential)
+    (o : Operation) (r : Request) (found : Lookup) (place : Option ℕ) (length : ℕ) : Type 0 where
   pub marked : s .highWater ≡ facts .highwater
   pub own : s .partition ≡ p
   pub repeats : row12 s c r ≡ facts .replayed
@@ -95,8 +96,9 @@ place-when true place = refl
 place-when false place = refl
 
 -- ---- they are the rules' rows
-pub rows-by-facts : (s : Scope Object) (facts : ScopeFacts) (p : rules.Partition Object) (c : Credential) (o : Operation)
-    (r : Request) (found : Lookup) (place : Option ℕ) (length room : ℕ) → FactsHold s facts p c o r found place length
+pub rows-by-facts : (s : Scope Object) (facts : ScopeFacts) (p : rules.Partition Object) (c : Credential)
+    (o : Operation) (r : Request) (found : Lookup) (place : Option ℕ) (length room : ℕ)
+    → FactsHold s facts p c o r found place length
     → timeRow facts c (operationNumber o) r (objectRow c r found (presentVersionIn (p .version) (c .object) found)
     (roomRow p (facts .held) r place length room)) ≡ firstRow (scopeRows s c r room)
 unfolding
@@ -120,5 +122,6 @@ unfolding
     lookupIn
 rows-by-facts s facts p c o r found place length room w =
     let w20 : (r .operation is 5 && missing place) ≡ (r .operation is 5 && missing (placement s (r .B))) =
-    ap (λ (a : Option ℕ). r .operation is 5 && missing a) (w .placed) ∙ place-when (r .operation is 5) (placement s (r .B)) in
+    ap (λ (a : Option ℕ). r .operation is 5 && missing a) (w .placed)
+    ∙ place-when (r .operation is 5) (placement s (r .B)) in
     rw (w20, w .number, w .named, w .whole, ← w .marked, ← w .own, ← w .repeats, ← w .entries) refl

@@ -27,7 +27,8 @@ unfolding splice
 splice-none s = take-append-drop headSize s
 
 -- a number of four bytes that fits
-put-number : (r : List ℕ) (i v : ℕ) → i + length (bigEndian 4 v) ≤ length r → numberPut r i 4 v ≡ splice r i (bigEndian 4 v)
+put-number : (r : List ℕ) (i v : ℕ) → i + length (bigEndian 4 v) ≤ length r
+    → numberPut r i 4 v ≡ splice r i (bigEndian 4 v)
 put-number r i v h = rw (le-leb (i + 4) (length r) (omega (arith, length-bigEndian 4 v))) refl
 
 pub result-is : (o : Operation) (s : Scope Object) (x : Fields) (m : List ℕ) (k : GrantContext)
@@ -38,7 +39,8 @@ unfolding perform
 result-is (Read a b) s x m k w fit r h =
     let i = fit .read a b refl in
     let n = length-part m (extentStart s (x .cred) + a) b i in
-    rw (w .start, le-leb (extentStart s (x .cred) + a + b) (length m) i, le-leb (headSize + b) (length r) (omega arith)) refl
+    let j = le-leb (headSize + b) (length r) (omega arith) in
+    rw (w .start, le-leb (extentStart s (x .cred) + a + b) (length m) i, j) refl
 result-is (Write a b) s x m k w fit r h = sym (splice-none r)
 result-is Look s x m k w fit r h =
     let a : List ℕ = bigEndian 4 (sizeOf s (x .cred)) in

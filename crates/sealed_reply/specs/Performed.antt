@@ -25,8 +25,8 @@ use Rattle.result.specs.Result.{resultPut}
 use Rattle.result.specs.Performed.{result-is}
 use Rattle.sealed_reply.specs.Reply.{sealPut, resultReply, replyPut}
 
-module _ (o : Operation) (s : Scope Object) (x : Fields) (m : List ℕ) (k : GrantContext) (w : ContextFits o s (x .cred) k)
-    (fit : BytesFit o s x m) (n : ℕ) (n-is : n ≡ length (perform o s x m .result)) (space : List ℕ)
+module _ (o : Operation) (s : Scope Object) (x : Fields) (m : List ℕ) (k : GrantContext)
+    (w : ContextFits o s (x .cred) k) (fit : BytesFit o s x m) (n : ℕ) (n-is : n ≡ length (perform o s x m .result)) (space : List ℕ)
     (room : headSize + n + cond (x .req .level is 2) digestSize 0 ≤ length space) where
   abbrev result : List ℕ
   result = perform o s x m .result
@@ -66,7 +66,8 @@ module _ (o : Operation) (s : Scope Object) (x : Fields) (m : List ℕ) (k : Gra
       let lf : length (H ++ result) ≡ headSize + n = length-append H result ∙ omega (arith, head-long, n-is) in
       let l : length front ≡ length space = length-splice space (H ++ result) 0 (omega arith) in
       let digest : hmac key (x .credential ++ x .request ++ take (headSize + n) front) ≡ D =
-      ap (λ (y : List ℕ). hmac key (x .credential ++ x .request ++ y)) (splice-front space (H ++ result) (headSize + n) lf)
+      ap (λ (y : List ℕ). hmac key (x .credential ++ x .request ++ y))
+      (splice-front space (H ++ result) (headSize + n) lf)
       ∙ ap (hmac key) (append-assoc (x .credential) (x .request) (H ++ result)) in
       rw (le-leb (headSize + n + digestSize) (length front) (omega arith), digest)
       (splice-after-size space (H ++ result) D 0 (headSize + n) (omega arith)
