@@ -39,7 +39,7 @@ use Rattle.rules.proofs.Clear.{Clear, clear22}
 use Rattle.rules.proofs.Memories.{room-left}
 use Rattle.wire.specs.declared.ParsedRequest.{ParsedRequest}
 use Rattle.wire.specs.Parse.{numbersOf, frameRow}
-use Rattle.keyring.specs.Keys.{keysIn}
+use Rattle.keyring.specs.Keys.{keySize, keysIn}
 use Rattle.state.specs.declared.Lookup.{Lookup}
 use Rattle.state.specs.Table.{objectsIn, partitionIn, lookupIn}
 use Rattle.judge.specs.declared.ScopeFacts.{ScopeFacts}
@@ -56,11 +56,12 @@ use Rattle.drive.proofs.Frames.{parsed-row, parsed-credential, parsed-r
 use Rattle.drive.proofs.Grants.{numbers-operation, bytes-fit, result-long, reply-room, context-fits, change-fits}
 
 -- the bytes of a key, as the code lends them
-pub secret-is : (ks : List ℕ) (j k : ℕ) → j ≡ k → midOf (32 * j) (32 * j + 32 - 32 * j) ks ≡ part ks (32 * k) 32
+pub secret-is : (ks : List ℕ) (j k : ℕ) → j ≡ k
+    → midOf (keySize * j) (keySize * j + keySize - keySize * j) ks ≡ part ks (keySize * k) keySize
 unfolding part
 secret-is ks j k e =
-    let n : 32 * j + 32 - 32 * j ≡ 32 = omega arith in
-    ap (λ (i : ℕ). take i (drop (32 * j) ks)) n ∙ ap (λ (i : ℕ). take 32 (drop (32 * i) ks)) e
+    let n : keySize * j + keySize - keySize * j ≡ keySize = omega arith in
+    ap (λ (i : ℕ). take i (drop (keySize * j) ks)) n ∙ ap (λ (i : ℕ). take keySize (drop (keySize * i) ks)) e
 
 -- what the code works out before it judges: the request's numbers, the lengths of result and reply, the object that the
 -- credential names, and where a new extent would start

@@ -18,6 +18,8 @@ use Rattle.rules.proofs.Clear.{low-partition, low-memory}
 use Rattle.wire.specs.declared.ParsedRequest.{ParsedRequest}
 use Rattle.wire.specs.Parse.{frameRow, numbersOf}
 use Rattle.wire.specs.ParseLaws.{answered-fields}
+use Rattle.keyring.specs.Keys.{partitionCount}
+use Rattle.memory.specs.Memory.{memoryCount}
 use Rattle.drive.specs.Admission.{ParsedTo}
 
 module _ {f : List ℕ} {c : Credential} {q : ParsedRequest} (parsed : ParsedTo f c q) where
@@ -47,13 +49,13 @@ module _ {f : List ℕ} {c : Credential} {q : ParsedRequest} (parsed : ParsedTo 
   pub partition-is : c .partition ≡ fields f .cred .partition
   partition-is = ap Credential.partition parsed-credential
 
-  pub in-four : c .partition < 4
+  pub in-four : c .partition < partitionCount
   in-four = let h = low-partition (fields f) (clear .0) in omega (arith, partition-is)
 
   pub memory-is : memoryIndex c ≡ memoryIndex (fields f .cred)
   memory-is = ap memoryIndex parsed-credential
 
-  pub in-five : memoryIndex c < 5
+  pub in-five : memoryIndex c < memoryCount
   in-five = let h = low-memory (fields f) (clear .0) in omega (arith, memory-is)
 
 -- ---- the parts

@@ -38,9 +38,10 @@ use Rattle.rules.proofs.Sound.{at-sound}
 use Rattle.rules.proofs.Memories.{short as short-list}
 use Rattle.wire.specs.declared.ParsedRequest.{ParsedRequest}
 use Rattle.wire.specs.Parse.{numbersOf}
-use Rattle.keyring.specs.Keys.{keysIn}
+use Rattle.keyring.specs.Keys.{partitionCount, keysIn}
+use Rattle.memory.specs.Memory.{memoryCount}
 use Rattle.state.specs.Padded.{padded}
-use Rattle.state.specs.Table.{tableSize, partitionIn, partitionView}
+use Rattle.state.specs.Table.{countAt, tableSize, partitionIn, partitionView}
 use Rattle.state.specs.Places.{view-is}
 use Rattle.state.specs.Changes.{HasContent}
 use Rattle.judge.specs.declared.ScopeFacts.{ScopeFacts}
@@ -110,7 +111,7 @@ module _ (o : Opened) where
   k-is : k ≡ memoryIndex (x .cred)
   k-is = o .placed ∙ memory-is (o .parsed)
 
-  k-low : k < 5
+  k-low : k < memoryCount
   k-low = let h = in-five (o .parsed) in omega (arith, o .placed)
 
   -- the partition's table, as the code lends it
@@ -123,8 +124,8 @@ module _ (o : Opened) where
   abbrev pub part : List ℕ
   part = midOf (tableSize * i) width (d .tables)
 
-  part-is : getD (tablesIn 4 (d .tables)) i [] ≡ part
-  part-is = tables-at 4 i (d .tables) (in-four (o .parsed))
+  part-is : getD (tablesIn partitionCount (d .tables)) i [] ≡ part
+  part-is = tables-at partitionCount i (d .tables) (in-four (o .parsed))
       ∙ ap (λ (n : ℕ). midOf (tableSize * i) n (d .tables)) (sym width-is)
 
   pub long-part : length part ≡ tableSize
@@ -142,9 +143,9 @@ module _ (o : Opened) where
   abbrev pub mem : List Entry
   mem = getD all-memories k []
 
-  few-part : getD part 2 0 ≤ mostObjects
-  few-part = leb-true (getD part 2 0) mostObjects
-      (ap objectsFit (sym part-is) ∙ every-nth objectsFit (tablesIn 4 (d .tables)) i [] refl (o .counted .objects))
+  few-part : getD part countAt 0 ≤ mostObjects
+  few-part = leb-true (getD part countAt 0) mostObjects
+      (ap objectsFit (sym part-is) ∙ every-nth objectsFit (tablesIn partitionCount (d .tables)) i [] refl (o .counted .objects))
 
   mem-long : getD (d .lengths) k 0 ≡ length mem
   mem-long = held-long (d .lengths) (d .slots) (d .holders) (d .times) (d .counts) (o .counted .memories) k k-low
@@ -153,8 +154,8 @@ module _ (o : Opened) where
   home-is : driveScope (view d) (x .cred) .partition ≡ partitionIn part
   unfolding view partitionView padded
   home-is =
-      ap (λ (j : ℕ). getD (map partitionView (tablesIn 4 (d .tables))) j (emptyPartition 0)) (sym (partition-is (o .parsed)))
-      ∙ nth-map partitionView (tablesIn 4 (d .tables)) i [] ∙ ap partitionView part-is ∙ view-is part long-part few-part
+      ap (λ (j : ℕ). getD (map partitionView (tablesIn partitionCount (d .tables))) j (emptyPartition 0)) (sym (partition-is (o .parsed)))
+      ∙ nth-map partitionView (tablesIn partitionCount (d .tables)) i [] ∙ ap partitionView part-is ∙ view-is part long-part few-part
 
   held-is : driveScope (view d) (x .cred) .memory ≡ mem
   unfolding view
@@ -282,21 +283,21 @@ module _ (o : Opened) where
 
         -- and so is the partition
         changed : (partitionIn u ≡ perform (o .request .operation) scope x m .scope .partition)
-            × (getD u 2 0 ≤ mostObjects) × (length u ≡ tableSize)
+            × (getD u countAt 0 ≤ mostObjects) × (length u ≡ tableSize)
         changed = applied-is part u (o .request .operation) scope x m (out .nextversion) (out .newstart) long-part few-part refl
             (given .fits grant) (subst (λ (e : Credential). HasContent part u
             (contentAfter (o .request .operation) (e .object) (out .nextversion) (out .newstart) part)) c-is became)
 
-        partitions-in : map partitionView (tablesIn 4 (putMid (tableSize * i) width (d .tables) u))
+        partitions-in : map partitionView (tablesIn partitionCount (putMid (tableSize * i) width (d .tables) u))
             ≡ update (x .cred .partition) (λ (old : rules.Partition Object). a .drive .partition)
-            (map partitionView (tablesIn 4 (d .tables)))
+            (map partitionView (tablesIn partitionCount (d .tables)))
         partitions-in =
-            ap (λ (n : ℕ). map partitionView (tablesIn 4 (putMid (tableSize * i) n (d .tables) u))) width-is
-            ∙ ap (map partitionView) (tables-put 4 i (d .tables) u (in-four (o .parsed)) (o .counted .tables) (changed .2))
-            ∙ set-update partitionView (tablesIn 4 (d .tables)) i u (a .drive .partition)
+            ap (λ (n : ℕ). map partitionView (tablesIn partitionCount (putMid (tableSize * i) n (d .tables) u))) width-is
+            ∙ ap (map partitionView) (tables-put partitionCount i (d .tables) u (in-four (o .parsed)) (o .counted .tables) (changed .2))
+            ∙ set-update partitionView (tablesIn partitionCount (d .tables)) i u (a .drive .partition)
             (view-is u (changed .2) (changed .1) ∙ changed .0 ∙ sym (partition-performed ready space no-row))
             ∙ ap (λ (j : ℕ). update j (λ (old : rules.Partition Object). a .drive .partition)
-            (map partitionView (tablesIn 4 (d .tables)))) (partition-is (o .parsed))
+            (map partitionView (tablesIn partitionCount (d .tables)))) (partition-is (o .parsed))
 
         memories-in : memoriesOf ns s h t n
             ≡ update (memoryIndex (x .cred)) (λ (old : List Entry). a .drive .memory) all-memories

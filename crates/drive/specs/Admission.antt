@@ -24,7 +24,7 @@ use Rattle.rules.specs.Gate.{Answer, refused, granted}
 use Rattle.wire.specs.declared.ParsedRequest.{ParsedRequest}
 use Rattle.wire.specs.declared.Parsed.the-variants.{Fields as Parsed·Fields}
 use Rattle.wire.specs.Parse.{answerOf, frameAnswer, numbersOf}
-use Rattle.keyring.specs.Keys.{keysIn}
+use Rattle.keyring.specs.Keys.{keysSize, keysIn}
 use Rattle.state.specs.declared.Lookup.{Lookup}
 use Rattle.state.specs.Table.{tableSize, partitionIn}
 use Rattle.judge.specs.declared.ScopeFacts.{ScopeFacts}
@@ -78,7 +78,7 @@ pub record AdmitRequires (s : ScopeFacts) (ks t : List ℕ) (l : List Entry) (m 
   pub short : length l ≤ mostEntries
   pub replayed : row12 (scopeFrom s ks t l) c (numbersOf request) ≡ s .replayed
   pub held : length l ≡ s .held
-  pub keys : length ks ≡ 462
+  pub keys : length ks ≡ keysSize
   pub table : length t ≡ tableSize
 
 -- an outcome is the rules' answer to the frame f, of the scope s, the medium m and the reply space lent; and at a grant

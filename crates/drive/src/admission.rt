@@ -11,6 +11,7 @@ ghost use Rattle.digest.specs.Keyed.{Keyed};
 ghost use Rattle.rules.specs.Drive.{largestMedium};
 ghost use Rattle.rules.specs.Frame.{credentialSize, dataStart, fields, covered, memoryIndex};
 ghost use Rattle.rules.specs.Rows.{leastFrame};
+ghost use Rattle.keyring.specs.Keys.{partitionCount};
 ghost use Rattle.placing.specs.Placing.{placeOption};
 ghost use Rattle.state.specs.Table.{tableSize, partitionIn};
 ghost use Rattle.set_key.specs.Keys.{keysAfter};
@@ -25,16 +26,16 @@ use fields::CREDENTIAL_SIZE;
 use fields::DATA_START;
 use fields::DIGEST_SIZE;
 use judge::ScopeFacts;
+use keyring::KEY;
 use lemmas::pick;
 use placing::Place;
 use rules::Credential;
 use rules::Operation;
 use rules::Request;
+use state::LAST;
 use state::Lookup;
+use state::VERSION;
 use wire::ParsedRequest;
-
-// How long a key is.
-const KEY: usize = 32;
 
 // Which of the five memories: one for each partition (slots 0 to 2), a fifth for slots 3 and 4.
 pub fn memory_of(c: Credential) -> usize
@@ -92,7 +93,7 @@ fn grant_context(
     found: Lookup,
     place: Place,
 ) -> GrantContext
-    requires { ⌜ (size ≤ largestMedium) × (c .partition < 4) × (length (now table) ≡ tableSize) ⌝ }
+    requires { ⌜ (size ≤ largestMedium) × (c .partition < partitionCount) × (length (now table) ≡ tableSize) ⌝ }
     ensures { λ r. ⌜ r ≡ grantContext size (partitionIn (now (table .entry))) c found (placeOption place) ⌝ }
 {
     let quarter = (size / 4) as u32;
@@ -103,8 +104,8 @@ fn grant_context(
         size: o.size,
         newstart: start_of(place),
         looksize: pick(c.object == 0, quarter, o.size),
-        version: judge::present_version(table[0], c.object, found),
-        nextversion: effect::next_version(table[1]),
+        version: judge::present_version(table[VERSION], c.object, found),
+        nextversion: effect::next_version(table[LAST]),
     }
 }
 

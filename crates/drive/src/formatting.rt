@@ -6,46 +6,49 @@ ghost use lib.ListN.{replicate};
 ghost use Rattle.lemmas.specs.Tests.{_over_, _is_, _isnt_};
 ghost use Rattle.lemmas.specs.RowTable.{line, firstRow};
 ghost use Rattle.rules.specs.Drive.{largestMedium, emptyPartition, newDrive};
-ghost use Rattle.keyring.specs.Keys.{keysIn};
+ghost use Rattle.keyring.specs.Keys.{partitionCount, keySize, keysIn};
 ghost use Rattle.state.specs.Table.{partitionView};
 ghost use Rattle.drive.specs.View.{view, tablesIn};
 use super::Drive;
-use super::ENTRIES;
-use super::KEYS;
 use super::LARGEST_MEDIUM;
-use super::MEMORIES;
-use super::TABLE;
 use super::TABLES;
+use keyring::KEY;
+use keyring::KEYS;
+use memory::MEMORIES;
+use memory::PLACES;
+use state::LAST;
+use state::TABLE;
+use state::VERSION;
 
 // Row 24, 25 or 26, or 0 where none applies: of the lengths of the medium and of the keys lent, and the first version.
 pub fn format_row(size: usize, first: u32, master: usize, key: usize) -> u32
-    ensures { λ r. ⌜ r ≡ firstRow (line 24 (size over largestMedium) ∷ line 25 (first is 0) ∷ line 26 (master isnt 32 || key isnt 32) ∷ []) ⌝ }
+    ensures { λ r. ⌜ r ≡ firstRow (line 24 (size over largestMedium) ∷ line 25 (first is 0) ∷ line 26 (master isnt keySize || key isnt keySize) ∷ []) ⌝ }
 {
-    let r26 = lemmas::pick((master != 32) | (key != 32), 26, 0);
+    let r26 = lemmas::pick((master != KEY) | (key != KEY), 26, 0);
     let r25 = lemmas::pick(first == 0, 25, r26);
     lemmas::pick(size > LARGEST_MEDIUM, 24, r25)
 }
 
 // The tables of four partitions that have nothing.
 fn unused_tables(first: u32) -> [u32; TABLES]
-    ensures { λ r. ⌜ map partitionView (tablesIn 4 r) ≡ replicate 4 (emptyPartition first) ⌝ }
+    ensures { λ r. ⌜ map partitionView (tablesIn partitionCount r) ≡ replicate partitionCount (emptyPartition first) ⌝ }
 {
     let mut r = [0u32; TABLES];
-    r[0] = first;
-    r[1] = first;
-    r[TABLE] = first;
-    r[TABLE + 1] = first;
-    r[2 * TABLE] = first;
-    r[2 * TABLE + 1] = first;
-    r[3 * TABLE] = first;
-    r[3 * TABLE + 1] = first;
+    r[VERSION] = first;
+    r[LAST] = first;
+    r[TABLE + VERSION] = first;
+    r[TABLE + LAST] = first;
+    r[2 * TABLE + VERSION] = first;
+    r[2 * TABLE + LAST] = first;
+    r[3 * TABLE + VERSION] = first;
+    r[3 * TABLE + LAST] = first;
     r
 }
 
 // The drive of a medium of so many bytes with these keys: no object exists, each partition's version is the first, the mark
 // is 0.
 pub fn new_drive(size: usize, first: u32, keys: [u8; KEYS]) -> Drive
-    ensures { λ r. ⌜ view r ≡ newDrive size (record { highWater = 0; keys = keysIn keys; partitions = replicate 4 (emptyPartition first) }) ⌝ }
+    ensures { λ r. ⌜ view r ≡ newDrive size (record { highWater = 0; keys = keysIn keys; partitions = replicate partitionCount (emptyPartition first) }) ⌝ }
 {
     let tables = unused_tables(first);
     Drive {
@@ -54,9 +57,9 @@ pub fn new_drive(size: usize, first: u32, keys: [u8; KEYS]) -> Drive
         keys,
         tables,
         lengths: [0; MEMORIES],
-        slots: [0; ENTRIES],
-        holders: [0; ENTRIES],
-        times: [0; ENTRIES],
-        counts: [0; ENTRIES],
+        slots: [0; PLACES],
+        holders: [0; PLACES],
+        times: [0; PLACES],
+        counts: [0; PLACES],
     }
 }

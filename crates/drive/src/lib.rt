@@ -2,6 +2,11 @@
 ghost use mathlib.Core.Path.{_≡_};
 ghost use Rattle.drive.specs.Met.{callOf, FormatMet, GateMet};
 use judge::ScopeFacts;
+use keyring::KEYS;
+use keyring::PARTITIONS;
+use memory::MEMORIES;
+use memory::PLACES;
+use state::TABLE;
 use wire::Parsed;
 
 mod admission;
@@ -9,22 +14,8 @@ mod formatting;
 mod replay;
 mod row1;
 
-// The sizes of the drive's arrays. The keys' bytes (`keyring`).
-const KEYS: usize = 462;
-
-// Four partitions, and the numbers of a partition's table (`state`).
-const PARTITIONS: usize = 4;
-
-const TABLE: usize = 67;
-
+// The numbers of all partitions' tables.
 const TABLES: usize = PARTITIONS * TABLE;
-
-// Five replay memories, and the entries that one has places for (`memory`).
-const MEMORIES: usize = 5;
-
-const PLACES: usize = 64;
-
-const ENTRIES: usize = MEMORIES * PLACES;
 
 // The longest medium.
 const LARGEST_MEDIUM: usize = 16777216;
@@ -40,10 +31,10 @@ pub struct Drive {
     pub keys: [u8; KEYS],
     pub tables: [u32; TABLES],
     pub lengths: [usize; MEMORIES],
-    pub slots: [u8; ENTRIES],
-    pub holders: [u32; ENTRIES],
-    pub times: [u64; ENTRIES],
-    pub counts: [u32; ENTRIES],
+    pub slots: [u8; PLACES],
+    pub holders: [u32; PLACES],
+    pub times: [u64; PLACES],
+    pub counts: [u32; PLACES],
 }
 
 // Row 0 and the reply's length, or the row and 0; and the drive after the call.
@@ -182,10 +173,10 @@ fn answered(
     keys: [u8; KEYS],
     tables: [u32; TABLES],
     lengths: [usize; MEMORIES],
-    slots: [u8; ENTRIES],
-    holders: [u32; ENTRIES],
-    times: [u64; ENTRIES],
-    counts: [u32; ENTRIES],
+    slots: [u8; PLACES],
+    holders: [u32; PLACES],
+    times: [u64; PLACES],
+    counts: [u32; PLACES],
 ) -> Answer
     ensures { λ r. ⌜ r ≡ record {
       row = core .row;

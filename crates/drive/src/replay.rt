@@ -7,8 +7,8 @@ ghost use Rattle.lemmas.specs.Lists.{keep, some?, update};
 ghost use Rattle.rules.specs.declared.Entry.{Entry};
 ghost use Rattle.rules.specs.Drive.{lives, mostEntries, sameEntry};
 ghost use Rattle.drive.specs.View.{memoriesOf, MemoriesFit};
-use super::MEMORIES;
-use super::PLACES;
+use memory::MEMORIES;
+use memory::MOST_ENTRIES;
 use rules::Entry;
 
 // Drops the outlived entries of every memory.
@@ -27,7 +27,7 @@ pub fn drop_outlived(
 {
     let mut m = 0;
     while m < MEMORIES {
-        let start = PLACES * m;
+        let start = MOST_ENTRIES * m;
         let end = start + lengths[m];
         let left = memory::purge(
             &mut slots[start..end],
@@ -54,7 +54,7 @@ pub fn is_replayed(
     requires { ⌜ MemoriesFit (now lengths) (now slots) (now holders) (now times) (now counts) × (k < 5) ⌝ }
     ensures { λ r. ⌜ r ≡ some? (sameEntry nonce) (getD (memoriesOf (now (lengths .entry)) (now (slots .entry)) (now (holders .entry)) (now (times .entry)) (now (counts .entry))) k []) ⌝ }
 {
-    let start = PLACES * k;
+    let start = MOST_ENTRIES * k;
     let end = start + lengths[k];
     memory::holds(
         &slots[start..end],
@@ -80,7 +80,7 @@ pub fn enter(
         ≡ update k (λ (old : List Entry). old ++ (nonce ∷ [])) (memoriesOf (now (lengths .entry)) (now (slots .entry)) (now (holders .entry)) (now (times .entry)) (now (counts .entry))) ⌝ }
 {
     let held = lengths[k];
-    let at = PLACES * k + held;
+    let at = MOST_ENTRIES * k + held;
     slots[at] = nonce.slot;
     holders[at] = nonce.holder;
     times[at] = nonce.time;

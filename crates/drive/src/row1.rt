@@ -2,25 +2,27 @@
 ghost use mathlib.Core.Path.{_≡_};
 ghost use mathlib.Core.Bool.{true, _&&_};
 ghost use mathlib.Core.List.{map};
-ghost use Prim.Native.Nat.{max};
+ghost use Prim.Native.Nat.{_*_, max};
 ghost use lib.Dec.{leb};
 ghost use lib.ListN.{length};
 ghost use Rattle.lemmas.specs.Lists.{every};
 ghost use Rattle.lemmas.specs.Tests.{_is_};
 ghost use Rattle.rules.specs.Drive.{largestMedium, quarter as quarterOf, soundPartition};
-ghost use Rattle.state.specs.Table.{partitionView};
+ghost use Rattle.keyring.specs.Keys.{partitionCount};
+ghost use Rattle.memory.specs.Memory.{memoryCount};
+ghost use Rattle.state.specs.Table.{tableSize, partitionView};
 ghost use Rattle.drive.specs.View.{tablesIn, objectsFit, entriesFit};
 use super::LARGEST_MEDIUM;
-use super::MEMORIES;
-use super::PARTITIONS;
-use super::PLACES;
-use super::TABLE;
+use keyring::PARTITIONS;
+use memory::MEMORIES;
+use memory::MOST_ENTRIES;
+use state::TABLE;
 
 // Whether every partition is sound; and then no count passes its places.
 fn sound_tables(tables: &[u32], quarter: u32) -> bool
-    requires { ⌜ length (now tables) ≡ 268 ⌝ }
-    ensures { λ r. ⌜ (r ≡ every (soundPartition quarter) (map partitionView (tablesIn 4 (now (tables .entry)))))
-        × (r ≡ true → every objectsFit (tablesIn 4 (now (tables .entry))) ≡ true) ⌝ }
+    requires { ⌜ length (now tables) ≡ partitionCount * tableSize ⌝ }
+    ensures { λ r. ⌜ (r ≡ every (soundPartition quarter) (map partitionView (tablesIn partitionCount (now (tables .entry)))))
+        × (r ≡ true → every objectsFit (tablesIn partitionCount (now (tables .entry))) ≡ true) ⌝ }
 {
     let mut r = true;
     let mut i = 0;
@@ -35,13 +37,13 @@ fn sound_tables(tables: &[u32], quarter: u32) -> bool
 
 // Whether no memory has over 64 entries.
 fn short_memories(lengths: &[usize]) -> bool
-    requires { ⌜ length (now lengths) ≡ 5 ⌝ }
+    requires { ⌜ length (now lengths) ≡ memoryCount ⌝ }
     ensures { λ r. ⌜ r ≡ every entriesFit (now (lengths .entry)) ⌝ }
 {
     let mut r = true;
     let mut i = 0;
     while i < MEMORIES {
-        r = r & (lengths[i] <= PLACES);
+        r = r & (lengths[i] <= MOST_ENTRIES);
         i += 1;
     }
     r
@@ -49,10 +51,10 @@ fn short_memories(lengths: &[usize]) -> bool
 
 // Whether row 1 does not apply: of M, the tables and the memories' lengths of a record, and a medium of n bytes.
 pub fn passes_row1(size: usize, tables: &[u32], lengths: &[usize], n: usize) -> bool
-    requires { ⌜ (length (now tables) ≡ 268) × (length (now lengths) ≡ 5) ⌝ }
-    ensures { λ r. ⌜ (r ≡ (leb size largestMedium && every (soundPartition (quarterOf size)) (map partitionView (tablesIn 4 (now (tables .entry))))
+    requires { ⌜ (length (now tables) ≡ partitionCount * tableSize) × (length (now lengths) ≡ memoryCount) ⌝ }
+    ensures { λ r. ⌜ (r ≡ (leb size largestMedium && every (soundPartition (quarterOf size)) (map partitionView (tablesIn partitionCount (now (tables .entry))))
         && every entriesFit (now (lengths .entry)) && n is size))
-        × (r ≡ true → every objectsFit (tablesIn 4 (now (tables .entry))) ≡ true) ⌝ }
+        × (r ≡ true → every objectsFit (tablesIn partitionCount (now (tables .entry))) ≡ true) ⌝ }
 {
     if size > LARGEST_MEDIUM {
         return false;

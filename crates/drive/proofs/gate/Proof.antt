@@ -2,7 +2,7 @@
 use mathlib.Core.Path.{_≡_, refl, sym, ap, _∙_}
 use mathlib.Core.Bool.{Bool, true, false, _&&_, not}
 use mathlib.Core.List.{[], map}
-use Prim.Native.Nat.{_<_}
+use Prim.Native.Nat.{_*_, _<_}
 use native.Mathlib.Omega.{arith}
 use lib.Dec.{leb}
 use lib.ListN.{length, getD}
@@ -18,7 +18,9 @@ use Rattle.wire.specs.declared.ParsedRequest.{ParsedRequest}
 use Rattle.wire.specs.declared.Parsed.the-variants.{Refused}
 use Rattle.wire.specs.Parse.{answerOf, frameAnswer, frameRow, numbersOf}
 use Rattle.wire.specs.ParseLaws.{answered-refused, answered-row}
-use Rattle.state.specs.Table.{partitionView}
+use Rattle.keyring.specs.Keys.{partitionCount, keysSize}
+use Rattle.memory.specs.Memory.{memoryCount, memoryPlaces}
+use Rattle.state.specs.Table.{tableSize, partitionView}
 use Rattle.drive.specs.declared.Drive.{Drive}
 use Rattle.drive.specs.declared.Answer.{Answer}
 use Rattle.drive.specs.View.{view, tablesIn, memoriesOf, entriesFit, MemoriesFit, CountsFit}
@@ -105,8 +107,9 @@ grant-of t = at-granted (at-keys (t .before .before) .before)
 
 -- ---- how long the arrays are
 wide : (t : tie.Start) → let d = t .args .drive in
-    (length (d .keys) ≡ 462) × (length (d .tables) ≡ 268) × (length (d .lengths) ≡ 5) × (length (d .slots) ≡ 320)
-    × (length (d .holders) ≡ 320) × (length (d .times) ≡ 320) × (length (d .counts) ≡ 320)
+    (length (d .keys) ≡ keysSize) × (length (d .tables) ≡ partitionCount * tableSize) × (length (d .lengths) ≡ memoryCount)
+    × (length (d .slots) ≡ memoryPlaces) × (length (d .holders) ≡ memoryPlaces) × (length (d .times) ≡ memoryPlaces)
+    × (length (d .counts) ≡ memoryPlaces)
 wide t = (search needs, search needs, search needs, search needs, search needs, search needs, search needs)
 
 -- ---- row 1 does not apply: the record is sound, the medium its own, no count passes its array
@@ -127,7 +130,7 @@ counted t =
     let d = start1 t .args .drive in
     let n = length (start1 t .args .medium .now) in
     let w = wide (start1 t) in
-    let A = leb (d .size) largestMedium && every (soundPartition (quarter (d .size))) (map partitionView (tablesIn 4 (d .tables))) in
+    let A = leb (d .size) largestMedium && every (soundPartition (quarter (d .size))) (map partitionView (tablesIn partitionCount (d .tables))) in
     let all = and-l (A && every entriesFit (d .lengths)) (n is d .size) (sym (t .before .passes-row1 .ensures .0) ∙ ready-of t) in
     record {
       keys = w .0;
@@ -199,7 +202,7 @@ req t = t .before .parsed .given .0 .1 .0
 parsed-of : (t : tie.After-known-told) → ParsedTo (start2 (at-fresh (at-parse t)) .args .frame .now) (cred t) (req t)
 parsed-of t = record { answer = ap answerOf (sym (t .before .parsed .given .1)) ∙ at-parse t .parse .ensures }
 
-low-memory : (t : tie.After-memory-of) → t .memory-of .result < 5
+low-memory : (t : tie.After-memory-of) → t .memory-of .result < memoryCount
 low-memory t = let h = in-five (parsed-of (at-told t)) in omega (arith, t .memory-of .ensures)
 
 -- ---- the frame's scope is taken out of the drive

@@ -17,7 +17,7 @@ use Rattle.rules.specs.declared.Request.{Request}
 use Rattle.rules.specs.Frame.{credentialSize, dataStart, fields, covered}
 use Rattle.rules.specs.Operations.{keyIn, credentialKey}
 use Rattle.rules.specs.Rows.{scopeRows, driveRows}
-use Rattle.keyring.specs.Keys.{keysIn, isSet, keyIndex}
+use Rattle.keyring.specs.Keys.{keyCount, keySize, keysSize, keysIn, isSet, keyIndex}
 use Rattle.keyring.specs.KeyLaws.{set-there, key-in-set, key-in-unset}
 use Rattle.placing.specs.Placing.{placeOption}
 use Rattle.drive.specs.Admission.{scopeFrom, AdmitRequires}
@@ -96,14 +96,14 @@ set-of t =
 
 -- its bytes
 abbrev secret : tie.Else1 → List ℕ
-secret t = let a = start1 t .args in part (a .keys .now) (32 * keyIndex (a .c .slot) (a .c .partition)) 32
+secret t = let a = start1 t .args in part (a .keys .now) (keySize * keyIndex (a .c .slot) (a .c .partition)) keySize
 
 found-of : (t : tie.Else1) (l : List Entry) → Given (start1 t) l → let a = start1 t .args in
     keyIn (keysIn (a .keys .now)) (a .c .partition) (a .c .slot) ≡ some (secret t)
 found-of t l w = let a = start1 t .args in key-in-set (a .keys .now) (a .c .partition) (a .c .slot) (w .keys) (set-of t)
 
 -- they are within the keys
-there : (t : tie.Else1) → (length (start1 t .args .keys .now) ≡ 462) × (at-key (t .before) .key-index .result < 14)
+there : (t : tie.Else1) → (length (start1 t .args .keys .now) ≡ keysSize) × (at-key (t .before) .key-index .result < keyCount)
 there t =
     let a = start1 t .args in
     let h = set-there (a .keys .now) (keyIndex (a .c .slot) (a .c .partition)) (set-of t) in
@@ -118,7 +118,7 @@ keyed-of t l w =
     let a = start1 (at-set t) .args in
     let f = a .frame .now in
     let j = at-key (at-set t .before) .key-index in
-    let key : hmac (midOf (32 * j .result) (32 * j .result + 32 - 32 * j .result) (a .keys .now)) (take credentialSize f)
+    let key : hmac (midOf (keySize * j .result) (keySize * j .result + keySize - keySize * j .result) (a .keys .now)) (take credentialSize f)
     ≡ credentialKey (keysIn (a .keys .now)) (fields f) =
     ap (λ (k : List ℕ). hmac k (take credentialSize f))
     (secret-is (a .keys .now) (j .result) (keyIndex (a .c .slot) (a .c .partition)) (j .ensures))

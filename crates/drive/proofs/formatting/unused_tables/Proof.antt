@@ -1,9 +1,9 @@
 -- No object is there: by computation.
 use mathlib.Core.Path.{refl}
-use borrow.Author.Needs.{needs}
 use Rattle.state.specs.Padded.{padded}
 use Rattle.state.specs.Table.{partitionView}
 use Rattle.lemmas.specs.Chunks.{chunks}
+use borrow.Author.Needs.{needs}
 use Rattle.drive.proofs.formatting.unused_tables.Statement.{statement}
 use Rattle.drive.proofs.formatting.unused_tables.Tie as tie
 
@@ -15,5 +15,6 @@ pub unused-tables-spec : {M : Type 1} → statement M
 unused-tables-spec =
     tie.close
     (tie.spec
-    (λ c. search needs) (λ c. search needs) (λ c. search needs) (λ c. search needs) (λ c. search needs) (λ c. search needs)
-    (λ c. search needs) (λ c. search needs) returns)
+    (λ c. search needs) (λ c. search needs) (λ c. search needs) (λ c. search needs) (λ c. search needs) (λ c. search needs) (λ c. search needs)
+    (λ c. search needs) (λ c. search needs) (λ c. search needs) (λ c. search needs) (λ c. search needs) (λ c. search needs) (λ c. search needs)
+    (λ c. search needs) (λ c. search needs) (λ c. search needs) (λ c. search needs) (λ c. search needs) (λ c. search needs) (λ c. search needs) (λ c. search needs) (λ c. search needs) (λ c. search needs) returns)
