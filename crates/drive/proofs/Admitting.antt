@@ -65,16 +65,16 @@ secret-is ks j k e =
 
 -- what the code works out before it judges: the request's numbers, the lengths of result and reply, the object that the
 -- credential names, and where a new extent would start
-pub record Prepared (s : ScopeFacts) (t : List ℕ) (c : Credential) (q : ParsedRequest) (r : Request) (n whole : ℕ)
+pub record Prepared (s : ScopeFacts) (t : List ℕ) (c : Credential) (request : ParsedRequest) (r : Request) (n whole : ℕ)
     (found : Lookup) (place : Option ℕ) : Type 0 where
-  pub numbers : r ≡ numbersOf q
+  pub numbers : r ≡ numbersOf request
   pub result : n ≡ resultLength r
   pub reply : whole ≡ headSize + n + cond (r .level is 2) digestSize 0
   pub named : found ≡ lookupIn (objectsIn t) (c .object)
   pub placed : place ≡ placementFor (quarter (s .size)) (objectsIn t) r
 
-module _ {s : ScopeFacts} {ks t : List ℕ} {l : List Entry} {m f : List ℕ} {c : Credential} {q : ParsedRequest}
-    (w : AdmitRequires s ks t l m f c q) where
+module _ {s : ScopeFacts} {ks t : List ℕ} {l : List Entry} {m f : List ℕ} {c : Credential} {request : ParsedRequest}
+    (w : AdmitRequires s ks t l m f c request) where
   abbrev y : Fields
   y = fields f
 
@@ -84,11 +84,11 @@ module _ {s : ScopeFacts} {ks t : List ℕ} {l : List Entry} {m f : List ℕ} {c
   c-is : c ≡ y .cred
   c-is = parsed-credential (w .parsed)
 
-  q-is : numbersOf q ≡ y .req
-  q-is = parsed-request (w .parsed)
+  request-is : numbersOf request ≡ y .req
+  request-is = parsed-request (w .parsed)
 
-  name-is : operationOf y ≡ q .operation
-  name-is = ap operation (sym q-is) ∙ numbers-operation q
+  name-is : operationOf y ≡ request .operation
+  name-is = ap operation (sym request-is) ∙ numbers-operation request
 
   -- ---- rows 8 and on, for a reply space
   module _ (space : List ℕ) where
@@ -135,25 +135,25 @@ module _ {s : ScopeFacts} {ks t : List ℕ} {l : List Entry} {m f : List ℕ} {c
 
     -- the digest compared
     module _ (space : List ℕ) (signed : Bool) (compared : signed ≡ same (y .digest) (hmac (credentialKey (keysIn ks) y)
-        (covered (q .level) (y .credential) (y .request) (y .payload)))) where
+        (covered (request .level) (y .credential) (y .request) (y .payload)))) where
       row9-is : row9 S y ≡ not signed
       unfolding row9 digestOf numbersOf
       row9-is = ap not (ap (λ (l : ℕ). same (y .digest) (hmac (credentialKey (keysIn ks) y)
-          (covered l (y .credential) (y .request) (y .payload)))) (sym (ap Request.level q-is)) ∙ sym compared)
+          (covered l (y .credential) (y .request) (y .payload)))) (sym (ap Request.level request-is)) ∙ sym compared)
 
       pub nine : signed ≡ false → firstRow (table space) ≡ 9
       nine h = past8 space ∙ row-here (line 9 (row9 S y)) (judged space) (row9-is ∙ ap not h)
 
-      pub from10 : signed ≡ true → firstRow (table space) ≡ firstRow (scopeRows S c (numbersOf q) (length space))
+      pub from10 : signed ≡ true → firstRow (table space) ≡ firstRow (scopeRows S c (numbersOf request) (length space))
       from10 h =
           past8 space ∙ row-next (line 9 (row9 S y)) (judged space) (row9-is ∙ ap not h)
-          ∙ rw (c-is, q-is) refl
+          ∙ rw (c-is, request-is) refl
 
   -- ---- a refusal
   module _ (space : List ℕ) where
     pub refusal-given : (r : Outcome) (n : ℕ) → firstRow (table space) ≡ n → (n ≡ 0 → ⊥)
         → r ≡ record { row = n; length = 0; nextversion = 0; newstart = 0 }
-        → OutcomeMet S m f space (q .operation) r m space
+        → OutcomeMet S m f space (request .operation) r m space
     unfolding scopeAnswer
     refusal-given r n first z e = record {
       row = ap Outcome.row e ∙ ap Answer.row (sym answer);
@@ -178,34 +178,34 @@ module _ {s : ScopeFacts} {ks t : List ℕ} {l : List Entry} {m f : List ℕ} {c
       answer = rw first refl
 
       -- what a grant enters, and that there is room for it
-      pub memory-entered : l ++ (entry c (numbersOf q) ∷ []) ≡ scopeAnswer S m y space .drive .memory
+      pub memory-entered : l ++ (entry c (numbersOf request) ∷ []) ≡ scopeAnswer S m y space .drive .memory
       unfolding granted remember
-      memory-entered = rw (answer, c-is, q-is) refl
+      memory-entered = rw (answer, c-is, request-is) refl
 
       pub memory-room : length l < mostEntries
       memory-room = room-left S (clear22 clear) (le-leb (length l) mostEntries (w .short))
 
       -- what it performs
-      pub keys-performed : scopeAnswer S m y space .drive .keys ≡ perform (q .operation) S y m .scope .keys
+      pub keys-performed : scopeAnswer S m y space .drive .keys ≡ perform (request .operation) S y m .scope .keys
       unfolding granted
       keys-performed = rw (answer, name-is) refl
 
-      pub partition-performed : scopeAnswer S m y space .drive .partition ≡ perform (q .operation) S y m .scope .partition
+      pub partition-performed : scopeAnswer S m y space .drive .partition ≡ perform (request .operation) S y m .scope .partition
       unfolding granted
       partition-performed = rw (answer, name-is) refl
 
   -- ---- what is judged, and granted, of what the code worked out
-  module _ {r : Request} {n whole : ℕ} {found : Lookup} {place : Option ℕ} (p : Prepared s t c q r n whole found place)
+  module _ {r : Request} {n whole : ℕ} {found : Lookup} {place : Option ℕ} (p : Prepared s t c request r n whole found place)
     where
       whole-is : whole ≡ replyLength r
       unfolding replyLength
       whole-is = p .reply ∙ ap (λ (i : ℕ). headSize + i + cond (r .level is 2) digestSize 0) (p .result)
 
       r-is : r ≡ y .req
-      r-is = p .numbers ∙ q-is
+      r-is = p .numbers ∙ request-is
 
       -- what the judge knows
-      pub judge-facts : FactsHold S s (partitionIn t) c (q .operation) r found place whole
+      pub judge-facts : FactsHold S s (partitionIn t) c (request .operation) r found place whole
       unfolding placement partitionIn numbersOf
       judge-facts = record {
         marked = refl;
@@ -230,9 +230,9 @@ module _ {s : ScopeFacts} {ks t : List ℕ} {l : List Entry} {m f : List ℕ} {c
 
         pub granted-given : {secret : List ℕ} → keyIn (keysIn ks) (c .partition) (c .slot) ≡ some secret
             → (k : GrantContext) → k ≡ grantContext (s .size) (partitionIn t) c found place
-            → (after replied : List ℕ) → after ≡ mediumAfter (q .operation) k (y .payload) m
-            → replied ≡ replyPut (credentialKey (keysIn ks) y) (y .credential ++ y .request) r n (q .operation) k m space
-            → OutcomeMet S m f space (q .operation)
+            → (after replied : List ℕ) → after ≡ mediumAfter (request .operation) k (y .payload) m
+            → replied ≡ replyPut (credentialKey (keysIn ks) y) (y .credential ++ y .request) r n (request .operation) k m space
+            → OutcomeMet S m f space (request .operation)
             (record { row = 0; length = whole; nextversion = k .nextversion; newstart = k .newstart }) after replied
         unfolding granted
         granted-given set k k-is after replied medium-e reply-e = record {
@@ -269,7 +269,7 @@ module _ {s : ScopeFacts} {ks t : List ℕ} {l : List Entry} {m f : List ℕ} {c
             room : headSize + n + cond (y .req .level is 2) digestSize 0 ≤ length space
             room = rw long (reply-room (clear space first) (w .sound) (s .size) refl m (w .size))
 
-            changes : ChangeFits (q .operation) S (k .nextversion) (k .newstart)
+            changes : ChangeFits (request .operation) S (k .nextversion) (k .newstart)
             changes = subst (λ (o : Operation). ChangeFits o S (k .nextversion) (k .newstart)) name-is
                 (subst (λ (h : GrantContext). ChangeFits (operationOf y) S (h .nextversion) (h .newstart)) (sym there)
                 (change-fits (clear space first) (w .sound) (s .size) refl m (w .size) named-y placed-y))

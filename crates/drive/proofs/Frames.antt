@@ -1,5 +1,5 @@
 -- A frame that none of rows 2 to 7 refuses: its length, its partition, and its parts as slices of it.
--- f: the frame. c, q: what its parse gave.
+-- f: the frame. c, request: what its parse gave.
 use mathlib.Core.Path.{_≡_, refl, ap, _∙_}
 use mathlib.Core.Bool.{false}
 use mathlib.Core.List.{List, _++_}
@@ -22,15 +22,15 @@ use Rattle.keyring.specs.Keys.{partitionCount}
 use Rattle.memory.specs.Memory.{memoryCount}
 use Rattle.drive.specs.Admission.{ParsedTo}
 
-module _ {f : List ℕ} {c : Credential} {q : ParsedRequest} (parsed : ParsedTo f c q) where
+module _ {f : List ℕ} {c : Credential} {request : ParsedRequest} (parsed : ParsedTo f c request) where
   pub parsed-row : frameRow f ≡ 0
-  parsed-row = answered-fields f c q (parsed .answer) .0
+  parsed-row = answered-fields f c request (parsed .answer) .0
 
   pub parsed-credential : c ≡ fields f .cred
-  parsed-credential = answered-fields f c q (parsed .answer) .1
+  parsed-credential = answered-fields f c request (parsed .answer) .1
 
-  pub parsed-request : numbersOf q ≡ fields f .req
-  parsed-request = answered-fields f c q (parsed .answer) .2
+  pub parsed-request : numbersOf request ≡ fields f .req
+  parsed-request = answered-fields f c request (parsed .answer) .2
 
   none : (n : ℕ) → applies n (frameRows f (fields f)) ≡ false
   unfolding frameRow frameRows every

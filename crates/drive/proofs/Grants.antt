@@ -46,9 +46,9 @@ use Rattle.partition.specs.Applied.{ChangeFits}
 use Rattle.drive.specs.Admission.{grantContext}
 
 -- the operation of a parsed request's numbers is its own
-pub numbers-operation : (q : ParsedRequest) → operation (numbersOf q) ≡ q .operation
+pub numbers-operation : (request : ParsedRequest) → operation (numbersOf request) ≡ request .operation
 unfolding operation numbersOf
-numbers-operation q = go (q .operation)
+numbers-operation request = go (request .operation)
   where
     go : (o : Operation) → getD (Look ∷ Read (firstNumber o) (secondNumber o) ∷ Write (firstNumber o) (secondNumber o)
         ∷ Look ∷ Raise ∷ Create (firstNumber o) (secondNumber o) ∷ Delete ∷ SetKey (firstNumber o) ∷ [])

@@ -5,12 +5,12 @@ use mathlib.Core.List.{List, [], _∷_, _++_, map}
 use Prim.Native.Nat.{ℕ, _+_, _-_, _*_, _≤_, _<_}
 use native.Mathlib.Omega.{arith}
 use lib.Dec.{leb}
-use lib.ListN.{length, getD, drop, length-take, length-drop}
+use lib.ListN.{length, getD, drop, length-take, length-drop, List·getD-map}
 use borrow.Rule.Slice.PartMut.{midOf, putMid}
 use borrow.Author.Tests.{leb-true, eq-eqb}
 use Rattle.lemmas.specs.Tests.{_is_}
 use Rattle.lemmas.specs.Lists.{some?, update}
-use Rattle.lemmas.specs.ListLaws.{nth-map, every-nth, set-update}
+use Rattle.lemmas.specs.ListLaws.{every-nth, set-update}
 use Rattle.lemmas.specs.RowTable.{firstRow}
 use Rattle.rules.specs.declared.Entry.{Entry}
 use Rattle.rules.specs.declared.Object.{Object}
@@ -155,7 +155,7 @@ module _ (o : Opened) where
   unfolding view partitionView padded
   home-is =
       ap (λ (j : ℕ). getD (map partitionView (tablesIn partitionCount (d .tables))) j (emptyPartition 0)) (sym (partition-is (o .parsed)))
-      ∙ nth-map partitionView (tablesIn partitionCount (d .tables)) i [] ∙ ap partitionView part-is ∙ view-is part long-part few-part
+      ∙ List·getD-map partitionView (tablesIn partitionCount (d .tables)) i [] ∙ ap partitionView part-is ∙ view-is part long-part few-part
 
   held-is : driveScope (view d) (x .cred) .memory ≡ mem
   unfolding view

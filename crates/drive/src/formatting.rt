@@ -10,12 +10,12 @@ ghost use Rattle.keyring.specs.Keys.{partitionCount, keySize, keysIn};
 ghost use Rattle.state.specs.Table.{partitionView};
 ghost use Rattle.drive.specs.View.{view, tablesIn};
 use super::Drive;
-use super::LARGEST_MEDIUM;
 use super::TABLES;
 use keyring::KEY;
 use keyring::KEYS;
 use memory::MEMORIES;
 use memory::PLACES;
+use rules::LARGEST_MEDIUM;
 use state::LAST;
 use state::TABLE;
 use state::VERSION;
@@ -30,7 +30,7 @@ pub fn format_row(size: usize, first: u32, master: usize, key: usize) -> u32
 }
 
 // The tables of four partitions that have nothing.
-fn unused_tables(first: u32) -> [u32; TABLES]
+fn empty_tables(first: u32) -> [u32; TABLES]
     ensures { λ r. ⌜ map partitionView (tablesIn partitionCount r) ≡ replicate partitionCount (emptyPartition first) ⌝ }
 {
     let mut r = [0u32; TABLES];
@@ -50,7 +50,7 @@ fn unused_tables(first: u32) -> [u32; TABLES]
 pub fn new_drive(size: usize, first: u32, keys: [u8; KEYS]) -> Drive
     ensures { λ r. ⌜ view r ≡ newDrive size (record { highWater = 0; keys = keysIn keys; partitions = replicate partitionCount (emptyPartition first) }) ⌝ }
 {
-    let tables = unused_tables(first);
+    let tables = empty_tables(first);
     Drive {
         size,
         highwater: 0,

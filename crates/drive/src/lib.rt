@@ -15,10 +15,7 @@ mod replay;
 mod row1;
 
 // The numbers of all partitions' tables.
-const TABLES: usize = PARTITIONS * TABLE;
-
-// The longest medium.
-const LARGEST_MEDIUM: usize = 16777216;
+pub const TABLES: usize = PARTITIONS * TABLE;
 
 // Plain data, passed by value and returned. Nothing is asked of a record passed in: row 1 refuses one that is not sound.
 // `size` is the medium's length M, `highwater` document 01's mark. Everything else is in arrays of numbers, which can be lent:

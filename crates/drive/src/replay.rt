@@ -8,8 +8,8 @@ ghost use Rattle.rules.specs.declared.Entry.{Entry};
 ghost use Rattle.rules.specs.Drive.{lives, mostEntries, sameEntry};
 ghost use Rattle.drive.specs.View.{memoriesOf, MemoriesFit};
 use memory::MEMORIES;
-use memory::MOST_ENTRIES;
 use rules::Entry;
+use rules::MOST_ENTRIES;
 
 // Drops the outlived entries of every memory.
 pub fn drop_outlived(

@@ -12,10 +12,10 @@ ghost use Rattle.keyring.specs.Keys.{partitionCount};
 ghost use Rattle.memory.specs.Memory.{memoryCount};
 ghost use Rattle.state.specs.Table.{tableSize, partitionView};
 ghost use Rattle.drive.specs.View.{tablesIn, objectsFit, entriesFit};
-use super::LARGEST_MEDIUM;
 use keyring::PARTITIONS;
 use memory::MEMORIES;
-use memory::MOST_ENTRIES;
+use rules::LARGEST_MEDIUM;
+use rules::MOST_ENTRIES;
 use state::TABLE;
 
 // Whether every partition is sound; and then no count passes its places.

@@ -2,6 +2,7 @@
 // is written.
 ghost use mathlib.Core.Path.{_≡_};
 ghost use Rattle.effect.specs.Effect.{mediumAfter, nextVersionOf};
+use rules::LAST_VERSION;
 use rules::Operation;
 
 // Where an operation works. `quarterstart` is where the partition starts on the medium; `start` and `size` are the object's
@@ -21,7 +22,7 @@ pub struct GrantContext {
 pub fn next_version(last: u32) -> u32
     ensures { λ r. ⌜ r ≡ nextVersionOf last ⌝ }
 {
-    if last == 4294967295 { 0 } else { last + 1 }
+    if last == LAST_VERSION { 0 } else { last + 1 }
 }
 
 // A write's bytes go into its object's own part of the medium; a new extent is cleared.

@@ -14,19 +14,17 @@ use Rattle.rules.specs.Rows.{rows, driveRows}
 use Rattle.rules.specs.Gate as rules·gate
 use Rattle.rules.specs.Scope.{driveScope}
 use Rattle.rules.specs.Gate.{gate, granted, refused, afterRefusal, wholeAnswer}
-use Rattle.rules.specs.Demands.{State, answer, step}
+use Rattle.rules.specs.Demands.{answer, step}
 use Rattle.rules.specs.Program.{callIn}
 use Rattle.drive.specs.declared.Drive.{Drive}
 use Rattle.drive.specs.declared.Answer.{Answer}
 use Rattle.drive.specs.View.{view}
+use Rattle.drive.specs.Chain.{stateOf}
 use Rattle.drive.specs.Met.{GateMet, callOf}
 
 -- the size of the program's reply space, in bytes
 abbrev pub replySize : ℕ
 replySize = 65_536
-
-abbrev pub stateOf : Drive → List ℕ → State
-stateOf d m = record { drive = view d; medium = m }
 
 -- two answers that differ in the reply space at most
 record Alike (a b : rules·gate.Answer rules.Drive) : Type 0 where

@@ -17,7 +17,7 @@ use Rattle.gate.specs.declared.LoopState.{LoopState}
 use Rattle.gate.specs.declared.Pending.{Pending}
 use Rattle.gate.specs.declared.Progress.{Progress}
 use Rattle.gate.specs.declared.Refilled.{Refilled}
-use Rattle.gate.specs.Answered.{stateOf}
+use Rattle.drive.specs.Chain.{stateOf}
 use Rattle.gate.specs.Printed.{Printed}
 
 -- ---- sizes, in bytes: the input buffer, and room for the longest line

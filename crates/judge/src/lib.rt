@@ -1,7 +1,6 @@
 // Rows 10 to 23 of document 01, judged of one partition's table and of what is known of the rest that a frame can see.
 // Every test is made whatever the others say; the lowest row that applies is the answer.
 ghost use mathlib.Core.Path.{_≡_};
-ghost use mathlib.Core.Bool.{not, cond};
 ghost use Prim.Native.Nat.{_-_};
 ghost use lib.ListN.{getD};
 ghost use Rattle.lemmas.specs.RowTable.{firstRow};
@@ -18,8 +17,12 @@ use lemmas::pick;
 use placing::Place;
 use rules::Credential;
 use rules::Entry;
+use rules::LAST_VERSION;
+use rules::MOST_ENTRIES;
+use rules::MOST_OBJECTS;
 use rules::Operation;
 use rules::Request;
+use rules::TIME_WINDOW;
 use state::Lookup;
 use wire::ParsedRequest;
 
@@ -64,14 +67,14 @@ fn is_missing(place: Place) -> bool
     }
 }
 
-// Row 11, in differences: a sum with 5,000 could pass 64 bits.
+// Row 11, in differences: a sum with the time window could pass 64 bits.
 fn is_untimely(mark: u64, time: u64) -> bool
     ensures { λ r. ⌜ r ≡ untimely mark time ⌝ }
 {
     if time < mark {
-        return 5000 < mark - time;
+        return TIME_WINDOW < mark - time;
     }
-    5000 < time - mark
+    TIME_WINDOW < time - mark
 }
 
 // Row 13: whether the rights have the operation's bit.
@@ -164,10 +167,14 @@ fn room_row(table: &[u32], held: usize, r: Request, place: Place, length: u64, s
     let last = number_at(table, 1);
     let creates = r.operation == 5;
     let x = pick((space as u64) < length, 23, 0);
-    let x = pick(held == 64, 22, x);
-    let x = pick(gives_version(r) & (last == 4294967295), 21, x);
+    let x = pick(held == MOST_ENTRIES, 22, x);
+    let x = pick(gives_version(r) & (last == LAST_VERSION), 21, x);
     let x = pick(creates & is_missing(place), 20, x);
-    let x = pick(creates & (state::object_count(table) == 16), 19, x);
+    let x = pick(
+        creates & (state::object_count(table) == MOST_OBJECTS),
+        19,
+        x,
+    );
     pick(creates & !taken.missing, 18, x)
 }
 

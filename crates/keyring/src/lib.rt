@@ -19,7 +19,7 @@ const DRIVE_KEY: usize = PARTITION_KEYS + PARTITIONS;
 const MASTER_KEY: usize = DRIVE_KEY + 1;
 
 // How many keys there are; as a place it is no key's.
-const KEY_COUNT: usize = MASTER_KEY + 1;
+pub const KEY_COUNT: usize = MASTER_KEY + 1;
 
 // The bytes of a key, the first of those that say which keys are set, and all bytes.
 pub const KEY: usize = 32;

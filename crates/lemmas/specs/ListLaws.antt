@@ -14,11 +14,6 @@ use Rattle.lemmas.specs.Lists.{every, some?, pairs, keep, update, find, 
 
 -- ---- places of a list
 module _ {A : Type 0} where
-  pub nth-map : {B : Type 0} (f : A → B) (l : List A) (i : ℕ) (d : A) → getD (map f l) i (f d) ≡ f (getD l i d)
-  nth-map f [] i d = refl
-  nth-map f (x ∷ xs) zero d = refl
-  nth-map f (x ∷ xs) (suc i) d = nth-map f xs i d
-
   pub update-map : {B : Type 0} (f : A → B) (g : A → A) (k : B → B) → ((a : A) → f (g a) ≡ k (f a))
       → (i : ℕ) (l : List A)
       → map f (update i g l) ≡ update i k (map f l)

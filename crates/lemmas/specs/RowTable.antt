@@ -1,9 +1,10 @@
 -- A table of rows, in the order in which they are judged: the answer is the first row that applies, or 0 where none
 -- does.
-use mathlib.Core.Path.{_≡_, refl}
+use mathlib.Core.Path.{_≡_, refl, sym, _∙_}
 use mathlib.Core.Bool.{Bool, true, false, not, _&&_, cond}
-use mathlib.Core.List.{List, [], _∷_}
+use mathlib.Core.List.{List, [], _∷_, _++_}
 use Prim.Native.Nat.{ℕ, _≤_}
+use native.Mathlib.Decide.{ℕ-discrete}
 use native.Mathlib.Omega.{arith}
 use lib.Dec.{leb, eqb}
 use borrow.Author.Tests.{leb-true, eqb-false, not-true}
@@ -101,3 +102,33 @@ row-isnt n (r ∷ rs) h z = go (r .applies) (row-isnt n rs
     go : (b : Bool) → (firstRow rs is n) ≡ false → (cond b (r .row) (firstRow rs) is n) ≡ false
     go true k = not-true (r .row is n) (and-l (r .row isnt n) (every (λ (r : Row). r .row isnt n) rs) h)
     go false k = k
+
+-- ---- one table after another: no row of the first applies, or one does
+pub rows-passed : (rs bs : List Row) → numbered rs ≡ true → firstRow rs ≡ 0 → firstRow (rs ++ bs) ≡ firstRow bs
+unfolding firstRow every
+rows-passed [] bs n z = refl
+rows-passed (r ∷ rs) bs n z = go (r .applies) z (rows-passed rs bs (and-r (r .row isnt 0) (numbered rs) n))
+  where
+    go : (b : Bool) → cond b (r .row) (firstRow rs) ≡ 0 → (firstRow rs ≡ 0 → firstRow (rs ++ bs) ≡ firstRow bs)
+        → cond b (r .row) (firstRow (rs ++ bs)) ≡ firstRow bs
+    go true k ih = absurd (eqb-false (r .row) 0 (not-true (r .row is 0) (and-l (r .row isnt 0) (numbered rs) n)) k)
+    go false k ih = ih k
+
+pub rows-met : (rs bs : List Row) → (firstRow rs ≡ 0 → ⊥) → firstRow (rs ++ bs) ≡ firstRow rs
+unfolding firstRow
+rows-met [] bs z = absurd (z refl)
+rows-met (r ∷ rs) bs z = go (r .applies) z (rows-met rs bs)
+  where
+    go : (b : Bool) → (cond b (r .row) (firstRow rs) ≡ 0 → ⊥)
+        → ((firstRow rs ≡ 0 → ⊥) → firstRow (rs ++ bs) ≡ firstRow rs)
+        → cond b (r .row) (firstRow (rs ++ bs)) ≡ cond b (r .row) (firstRow rs)
+    go true k ih = refl
+    go false k ih = ih k
+
+-- no row of both: none of either
+pub rows-zero : (rs bs : List Row) → numbered rs ≡ true → firstRow (rs ++ bs) ≡ 0 → (firstRow rs ≡ 0) × (firstRow bs ≡ 0)
+rows-zero rs bs n z = go (ℕ-discrete (firstRow rs) 0)
+  where
+    go : Dec (firstRow rs ≡ 0) → (firstRow rs ≡ 0) × (firstRow bs ≡ 0)
+    go (yes e) = (e, sym (rows-passed rs bs n e) ∙ z)
+    go (no e) = absurd (e (sym (rows-met rs bs e) ∙ z))

@@ -37,6 +37,9 @@ and-r false b e = absurd (false≢true e)
 pub both : {a b : Bool} → a ≡ true → b ≡ true → (a && b) ≡ true
 both {a} {b} e f = rw e f
 
+pub neither : {a b : Bool} → a ≡ false → b ≡ false → (a || b) ≡ false
+neither {a} {b} e f = rw e f
+
 -- a test that fails, the first part of it passing
 pub and-rest-false : (a b : Bool) → a ≡ true → (a && b) ≡ false → b ≡ false
 and-rest-false true b e h = h

@@ -11,16 +11,13 @@ ghost use Rattle.rules.specs.Drive.{timeWindow, sameEntry};
 ghost use Rattle.memory.specs.Memory.{entriesIn, fewest, Purged};
 use lemmas::smaller;
 use rules::Entry;
+use rules::MOST_ENTRIES;
+use rules::TIME_WINDOW;
 
-// At most so many entries a memory, so many memories a drive, and so many places for entries all of them together.
-pub const MOST_ENTRIES: usize = 64;
-
+// How many memories a drive has, and how many places for entries all of them together.
 pub const MEMORIES: usize = 5;
 
 pub const PLACES: usize = MEMORIES * MOST_ENTRIES;
-
-// How far, in milliseconds, an entry's time may lie behind the mark.
-const TIME_WINDOW: u64 = 5000;
 
 // How many entries there are: the shortest of four lengths.
 fn shortest(a: usize, b: usize, c: usize, d: usize) -> usize

@@ -10,7 +10,7 @@ use native.Mathlib.Omega.{arith}
 use lib.Dec.{leb, eqb}
 use lib.ListN.{length}
 use borrow.Author.Tests.{lt-ltb, le-ltb, le-leb, ltb-false, eqb-true, not-true, not-false}
-use Rattle.lemmas.specs.Tests.{_under_, and-r, and-rest-false, or-l, or-r, or-cases, or-intro-l, or-intro-r}
+use Rattle.lemmas.specs.Tests.{_under_, and-r, and-rest-false, or-l, or-r, or-cases, or-intro-l, or-intro-r, neither}
 use Rattle.lemmas.specs.Lists.{part}
 use Rattle.lemmas.specs.BigEndian.{numberAt}
 use Rattle.rules.specs.Program.{broken, callIn, clockStart, frameLength, mostFrame, otherMark, overlong, recordHead, recordMagic}
@@ -23,10 +23,6 @@ noHead s = length s under recordHead
 
 abbrev noFrame : List ℕ → Bool
 noFrame s = length s under recordHead + frameLength s
-
--- none of two tests passes
-pub neither : {a b : Bool} → a ≡ false → b ≡ false → (a || b) ≡ false
-neither {a} {b} e f = rw e f
 
 -- ---- a test of a number that is looked at only where it is there
 pub there : (b : Bool) (t : ℕ → Bool) (x : ℕ) → (b && t (cond (not b) 0 x)) ≡ (b && t x)

@@ -10,7 +10,7 @@ use lib.Dec.{leb}
 use lib.ListN.{length, drop, length-append, length-drop}
 use lib.Seq.{take-append-le, drop-append-le}
 use borrow.Author.Tests.{le-ltb, le-leb, leb-true, ne-eqb}
-use Rattle.lemmas.specs.Tests.{_is_, _isnt_, and-l, and-r, both, or-cases, or-intro-r}
+use Rattle.lemmas.specs.Tests.{_is_, _isnt_, and-l, and-r, both, or-cases, or-intro-r, neither}
 use Rattle.lemmas.specs.Lists.{part}
 use Rattle.lemmas.specs.BigEndian.{numberAt, number-left}
 use Rattle.rules.specs.Demands.{State, answer, step}
@@ -31,7 +31,7 @@ use Rattle.rules.specs.Program.{
   recordMagic,
 }
 use Rattle.record.specs.Arrival.{malformed}
-use Rattle.record.specs.ArrivalLaws.{whole-facts, malformed-broken, neither}
+use Rattle.record.specs.ArrivalLaws.{whole-facts, malformed-broken}
 
 -- ---- a whole one stays whole, and stays the same call
 pub length-stays : (p q : List ℕ) → recordHead ≤ length p → frameLength (p ++ q) ≡ frameLength p

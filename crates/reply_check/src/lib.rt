@@ -2,7 +2,6 @@
 ghost use mathlib.Core.Path.{_≡_};
 ghost use Prim.Native.Nat.{_+_};
 ghost use lib.ListN.{length};
-ghost use Rattle.lemmas.specs.Lists.{same};
 ghost use Rattle.lemmas.specs.RowTable.{firstRow};
 ghost use Rattle.rules.specs.Frame.{digestSize};
 ghost use Rattle.rules.specs.Client.{checkRows};

@@ -4,11 +4,11 @@ use mathlib.Core.Path.{_≡_, refl, sym, _∙_}
 use mathlib.Core.List.{List, [], _++_}
 use Prim.Native.Nat.{ℕ, _+_, _≤_}
 use native.Mathlib.Omega.{arith}
-use lib.ListN.{length, length-append, take-append-drop}
+use lib.ListN.{length, length-append}
 use borrow.Author.Tests.{le-leb}
 use Rattle.lemmas.specs.Lists.{splice}
 use Rattle.lemmas.specs.Parts.{length-part, length-splice}
-use Rattle.lemmas.specs.Layout.{splice-after-size}
+use Rattle.lemmas.specs.Layout.{splice-after-size, splice-none}
 use Rattle.lemmas.specs.BigEndian.{bigEndian, length-bigEndian}
 use Rattle.octets.specs.Numbers.{numberPut}
 use Rattle.rules.specs.declared.Object.{Object}
@@ -20,11 +20,6 @@ use Rattle.rules.specs.Operations.{extentStart, presentVersion, sizeOf, nextVer
 use Rattle.effect.specs.declared.GrantContext.{GrantContext}
 use Rattle.effect.specs.Performed.{ContextFits, BytesFit}
 use Rattle.result.specs.Result.{resultPut}
-
--- nothing put anywhere
-splice-none : (s : List ℕ) → splice s headSize [] ≡ s
-unfolding splice
-splice-none s = take-append-drop headSize s
 
 -- a number of four bytes that fits
 put-number : (r : List ℕ) (i v : ℕ) → i + length (bigEndian 4 v) ≤ length r
@@ -41,7 +36,7 @@ result-is (Read a b) s x m k w fit r h =
     let n = length-part m (extentStart s (x .cred) + a) b i in
     let j = le-leb (headSize + b) (length r) (omega arith) in
     rw (w .start, le-leb (extentStart s (x .cred) + a + b) (length m) i, j) refl
-result-is (Write a b) s x m k w fit r h = sym (splice-none r)
+result-is (Write a b) s x m k w fit r h = sym (splice-none r headSize)
 result-is Look s x m k w fit r h =
     let a : List ℕ = bigEndian 4 (sizeOf s (x .cred)) in
     let b : List ℕ = bigEndian 4 (presentVersion s (x .cred)) in
@@ -55,5 +50,5 @@ result-is Look s x m k w fit r h =
 result-is Raise s x m k w fit r h = rw (w .raised refl) (put-number r headSize (nextVersion (s .partition)) h)
 result-is (Create number size) s x m k w fit r h =
     rw (w .created number size refl) (put-number r headSize (nextVersion (s .partition)) h)
-result-is Delete s x m k w fit r h = sym (splice-none r)
-result-is (SetKey target) s x m k w fit r h = sym (splice-none r)
+result-is Delete s x m k w fit r h = sym (splice-none r headSize)
+result-is (SetKey target) s x m k w fit r h = sym (splice-none r headSize)

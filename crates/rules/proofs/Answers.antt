@@ -9,7 +9,7 @@ use native.Mathlib.Decide.{ℕ-discrete}
 use native.Mathlib.Omega.{arith}
 use lib.Dec.{leb}
 use borrow.Author.Tests.{eq-eqb, ne-eqb}
-use Rattle.lemmas.specs.ListLaws.{nth-map}
+use lib.ListN.{List·getD-map}
 use Rattle.lemmas.specs.Lists.{every, keep}
 use Rattle.lemmas.specs.RowTable.{clear-zero, firstRow, line, numbered, Row, row-below, row-isnt, row-next, zero-clear}
 use Rattle.lemmas.specs.Tests.{_is_}
@@ -80,7 +80,7 @@ module _ (d : Drive) (m : List ℕ) (c : Call) where
     keys = refl;
     partitions = refl;
     mark = omega arith;
-    memories = λ k. inr (nth-map (keep (lives (newHighWater (d .tables .highWater) (c .clock)))) (d .memories) k []);
+    memories = λ k. inr (List·getD-map (keep (lives (newHighWater (d .tables .highWater) (c .clock)))) (d .memories) k []);
   }
 
   left-drive : (b : Bool) → MarkAndOutlived d (cond b d fresh)

@@ -5,16 +5,8 @@ use mathlib.Core.Bool.{Bool, cond, false, true}
 use mathlib.Core.Option.{none, Option, Option·getD, Option·map, some}
 use mathlib.Core.List.{List, List·Memᴰ, map}
 use Prim.Native.Nat.{_+_, ℕ}
-use Rattle.lemmas.specs.ListLaws.{
-  change-map,
-  change-map-same,
-  find-map,
-  found,
-  keep-map,
-  map-append,
-  nth-map,
-  update-map,
-}
+use lib.ListN.{List·getD-map}
+use Rattle.lemmas.specs.ListLaws.{change-map, change-map-same, find-map, found, keep-map, map-append, update-map}
 use Rattle.lemmas.specs.Lists.{change, find, missing}
 use Rattle.lemmas.specs.Tests.{_is_, _isnt_}
 use Rattle.rules.specs.declared.Credential.{Credential}
@@ -45,7 +37,7 @@ use Rattle.rules.specs.Scope.{withScope, Scope, withMemory}
 
 pub bare-at : (l : Ledger) (p : ℕ) → partitionAt (tablesOf l) p ≡ bare (partitionAt l p)
 unfolding tablesOf
-bare-at l p = nth-map bare (l .partitions) p (emptyPartition 0)
+bare-at l p = List·getD-map bare (l .partitions) p (emptyPartition 0)
 
 objects-with : (p : Partition Object) {a b : List Object} → a ≡ b
     → partitionWith {A = Object} (p .version) (p .last) a p ≡ partitionWith (p .version) (p .last) b p

@@ -9,7 +9,7 @@ use borrow.Author.Tests.{eq-eqb, eqb-false, eqb-true, lt-ltb, ltb-false, ne-eqb,
 use Rattle.lemmas.specs.ListLaws.{not-found}
 use Rattle.lemmas.specs.Lists.{every, find, missing}
 use Rattle.lemmas.specs.Parts.{length-part}
-use Rattle.lemmas.specs.RowTable.{applies, firstRow, line, none-applies, numbered, Row}
+use Rattle.lemmas.specs.RowTable.{applies, firstRow, line, none-applies, numbered, Row, rows-zero}
 use Rattle.lemmas.specs.Tests.{_is_, _isnt_, _over_, _under_, and-rest-false, and-l, and-r, none-of, or-intro-l, or-l, or-r}
 use Rattle.rules.specs.declared.Object.{Object}
 use Rattle.rules.specs.declared.Request.{Request}
@@ -105,18 +105,6 @@ asks-for r o e = subst (Asks r) e (go (r .operation) refl)
 pub record Clear (f : List ℕ) (s : Scope Object) (space : List ℕ) : Type 0 where
   pub frame : firstRow (frameRows f (fields f)) ≡ 0
   pub drive : firstRow (driveRows s (fields f) space) ≡ 0
-
--- no row of two tables, one after the other: none of either
-rows-zero : (rs bs : List Row) → numbered rs ≡ true → firstRow (rs ++ bs) ≡ 0 → (firstRow rs ≡ 0) × (firstRow bs ≡ 0)
-unfolding firstRow every
-rows-zero [] bs n z = (refl, z)
-rows-zero (r ∷ rs) bs n z = go (r .applies) z (rows-zero rs bs (and-r (r .row isnt 0) (numbered rs) n))
-  where
-    go : (b : Bool) → cond b (r .row) (firstRow (rs ++ bs)) ≡ 0
-        → (firstRow (rs ++ bs) ≡ 0 → (firstRow rs ≡ 0) × (firstRow bs ≡ 0))
-        → (cond b (r .row) (firstRow rs) ≡ 0) × (firstRow bs ≡ 0)
-    go true k ih = absurd (eqb-false (r .row) 0 (not-true (r .row is 0) (and-l (r .row isnt 0) (numbered rs) n)) k)
-    go false k ih = ih k
 
 module _ (d : Drive) (m f : List ℕ) (clock : ℕ) (space : List ℕ) (g : firstRow (rows d m f clock space) ≡ 0) where
   pub cleared : Clear f (driveScope (refresh clock d) (fields f .cred)) space

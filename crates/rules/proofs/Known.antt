@@ -7,9 +7,9 @@ use mathlib.Core.List.{[], List}
 use Prim.Native.Nat.{_+_, _<_, _≤_, ℕ}
 use native.Mathlib.Decide.{decLt, ℕ-discrete}
 use native.Mathlib.Omega.{arith}
-use lib.ListN.{getD, length}
+use lib.ListN.{getD, length, List·getD-map}
 use borrow.Author.Tests.{ltb-false}
-use Rattle.lemmas.specs.ListLaws.{nth-map, nth-update, nth-update-other, some-keep}
+use Rattle.lemmas.specs.ListLaws.{nth-update, nth-update-other, some-keep}
 use Rattle.lemmas.specs.Lists.{keep, some?, update}
 use Rattle.lemmas.specs.Tests.{_is_, _under_, or-l}
 use Rattle.rules.specs.declared.Entry.{Entry}
@@ -43,7 +43,7 @@ known-refreshed n d clock (inl k) = go (decLt (n .entry .time + 5000) mark)
     go : Dec (n .entry .time + 5000 < mark) → Known n (refresh clock d)
     go (yes h) = inr h
     go (no h) =
-        inl (ap (some? (sameEntry (n .entry))) (nth-map (keep (lives mark)) (d .memories) (n .memory) [])
+        inl (ap (some? (sameEntry (n .entry))) (List·getD-map (keep (lives mark)) (d .memories) (n .memory) [])
         ∙ some-keep (sameEntry (n .entry)) (lives mark) (getD (d .memories) (n .memory) [])
         (λ e s. still-lives mark (n .entry) e h s) k)
 

@@ -10,6 +10,7 @@ use lib.Dec.{leb}
 use Rattle.lemmas.specs.Tests.{_over_, _is_, _isnt_}
 use Rattle.lemmas.specs.Lists.{every, pairs, keep}
 use Rattle.lemmas.specs.RowTable.{Row, line, firstRow}
+use Rattle.rules.specs.Frame.{keySize}
 use Rattle.rules.specs.declared.Object.{Object}
 use Rattle.rules.specs.declared.Entry.{Entry}
 
@@ -147,7 +148,7 @@ unfoldable pub formatRows : List ℕ → ℕ → List ℕ → List ℕ → List 
 formatRows medium F master drive =
     line 24 (length medium over largestMedium)
     ∷ line 25 (F is 0)
-    ∷ line 26 (length master isnt 32 || length drive isnt 32)
+    ∷ line 26 (length master isnt keySize || length drive isnt keySize)
     ∷ []
 
 -- row 24: "the drive returned has no key, object or entry, and M, versions and mark are 0"

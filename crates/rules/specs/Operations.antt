@@ -1,6 +1,6 @@
 -- Document 01, "Operations": what a frame names, the seven operations' results and effects, and the reply.
 -- s: the frame's scope. x: its fields. c: the numbers of its credential. m: the medium.
-use mathlib.Core.Bool.{Bool, _&&_, _||_, cond}
+use mathlib.Core.Bool.{_||_, cond}
 use mathlib.Core.Option.{Option, none, some, Option·getD}
 use mathlib.Core.List.{List, [], _∷_, _++_}
 use Prim.Native.Nat.{ℕ, _+_, _*_}
@@ -15,7 +15,7 @@ use Rattle.rules.specs.declared.Object.{Object}
 use Rattle.rules.specs.declared.Entry.{Entry}
 use Rattle.rules.specs.declared.Operation.{Operation}
 use Rattle.rules.specs.declared.Operation.the-variants.{Read, Write, Look, Raise, Create, Delete, SetKey}
-use Rattle.rules.specs.Frame.{Fields, covered, entry}
+use Rattle.rules.specs.Frame.{Fields, covered, entry, digestSize}
 use Rattle.rules.specs.Drive.{Partition, partitionWith, Key, Keys}
 use Rattle.rules.specs.Scope.{Scope, withPartition, withKeys}
 use Rattle.rules.specs.BestFit.{extentStep, bestFit}
@@ -212,4 +212,4 @@ unfoldable pub reply : Keys → Fields → List ℕ → List ℕ
 reply k x result = headed (x .req) result ++ sealed k x result
 
 unfoldable pub replyLength : Request → ℕ
-replyLength r = headSize + resultLength r + cond (r .level is 2) 32 0
+replyLength r = headSize + resultLength r + cond (r .level is 2) digestSize 0

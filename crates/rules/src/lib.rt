@@ -1,4 +1,16 @@
-// Document 01's records, shared by the definitions in specs/ and by the code above. This crate has no other code.
+// Document 01's records and numbers, shared by the definitions in specs/ and by the code above. This crate has no function.
+
+// "M is at most 16,777,216"; "at most 16 a partition"; "64 at most".
+pub const LARGEST_MEDIUM: usize = 16777216;
+
+pub const MOST_OBJECTS: usize = 16;
+
+pub const MOST_ENTRIES: usize = 64;
+
+// How far, in milliseconds, a request's time may lie from the mark; and the last version that there is.
+pub const TIME_WINDOW: u64 = 5000;
+
+pub const LAST_VERSION: u32 = 4294967295;
 
 // Credential, 36 bytes: one number for each field, in its order.
 pub struct Credential {

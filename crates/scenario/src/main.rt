@@ -19,9 +19,9 @@ mod player;
 const LINE_LIMIT: u64 = 100000;
 
 // The sizes of the drive's tables, and of a key.
-const TABLES: usize = 268;
+const TABLES: usize = drive::TABLES;
 
-const KEY_SIZE: usize = 32;
+const KEY_SIZE: usize = keyring::KEY;
 
 const MEDIUM_SIZE: usize = 400;
 

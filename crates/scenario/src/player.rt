@@ -8,30 +8,30 @@ use scenario_script::script;
 use scenario_script::words;
 use scenario_script::words::NUMBERS;
 
-// The sizes of the drive's key store and of its tables, and of one partition's table; how many keys there are.
-const KEYS: usize = 462;
+// The sizes of the drive's key store, of its tables and of one partition's table; how many keys there are, how long one is.
+const KEYS: usize = keyring::KEYS;
 
-const TABLES: usize = 268;
+const TABLES: usize = drive::TABLES;
 
-const TABLE: usize = 67;
+const TABLE: usize = state::TABLE;
 
-const KEY_COUNT: usize = 14;
+const KEY_COUNT: usize = keyring::KEY_COUNT;
 
-const KEY_SIZE: usize = 32;
+const KEY_SIZE: usize = keyring::KEY;
 
 // Where a partition's table has its last version and its count of objects; where the numbers, versions, sizes and starts
 // of its objects begin.
-const LAST_VERSION: usize = 1;
+const LAST_VERSION: usize = state::LAST;
 
-pub const OBJECTS: usize = 2;
+pub const OBJECTS: usize = state::COUNT;
 
-pub const NUMBERS_FROM: usize = 3;
+pub const NUMBERS_FROM: usize = state::NUMBERS;
 
-pub const VERSIONS_FROM: usize = 19;
+pub const VERSIONS_FROM: usize = state::VERSIONS;
 
-pub const SIZES_FROM: usize = 35;
+pub const SIZES_FROM: usize = state::SIZES;
 
-pub const STARTS_FROM: usize = 51;
+pub const STARTS_FROM: usize = state::STARTS;
 
 // How many numbers a line has at most.
 const LINE_NUMBERS: usize = 7;

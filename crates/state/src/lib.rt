@@ -12,10 +12,8 @@ ghost use Rattle.rules.specs.Operations.{noObject, withVersion};
 ghost use Rattle.state.specs.Table.{tableSize, objectsIn, lookupIn};
 ghost use Rattle.state.specs.Changes.{HasContent, ChangedTo, contentWithFront, contentWithObject, raisedContent, createdContent, deletedContent};
 use lemmas::smaller;
+use rules::MOST_OBJECTS;
 use rules::Object;
-
-// At most so many objects a partition.
-pub const MOST_OBJECTS: usize = 16;
 
 // The places of a table's numbers, as in specs/Table.antt.
 pub const VERSION: usize = 0;

@@ -15,7 +15,8 @@ use Rattle.drive.specs.declared.Answer.{Answer}
 use Rattle.drive.specs.declared.Drive.{Drive}
 use Rattle.drive.specs.Met.{GateMet, callOf}
 use Rattle.gate.specs.declared.InputRecord.{InputRecord}
-use Rattle.gate.specs.Answered.{replySize, stateOf, answered}
+use Rattle.drive.specs.Chain.{stateOf}
+use Rattle.gate.specs.Answered.{replySize, answered}
 use Rattle.gate.specs.Printed.{Printed, printed-none, printed-call, text-put, frame-lent}
 use Rattle.gate.specs.Promises.{WholeRecordMet, size-zero, size-some, rest, rest-all, length-rest}
 use Rattle.gate.proofs.answer_records.Statement.{statement}

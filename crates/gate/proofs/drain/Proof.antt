@@ -12,7 +12,7 @@ use borrow.Author.Needs.{needs}
 use borrow.Author.Tests.{eqb-true, eqb-false}
 use Rattle.lemmas.specs.Tests.{or-l, or-cases}
 use Rattle.rules.specs.Program.{broken}
-use Rattle.gate.specs.Answered.{stateOf}
+use Rattle.drive.specs.Chain.{stateOf}
 use Rattle.gate.specs.Promises.{AnswerRecordsMet, rest, rest-all, length-rest}
 use Rattle.gate.proofs.drain.Statement.{statement}
 use Rattle.gate.proofs.drain.Tie as tie

@@ -9,7 +9,7 @@ use Rattle.drive.proofs.formatting.new_drive.Tie as tie
 
 returns : tie.Need-returns
 unfolding view memoriesIn padded zipWith chunks
-returns c = rw (c .unused-tables .ensures)
+returns c = rw (c .empty-tables .ensures)
 
 pub new-drive-spec : {M : Type 1} → statement M
 new-drive-spec = tie.close (tie.spec (λ c κs. search needs) returns)

@@ -1,4 +1,4 @@
--- The first 67 of the tables' numbers are that many.
+-- The tables' numbers are at least as many as those of one table.
 use mathlib.Core.Path.{_≡_, sym}
 use native.Mathlib.Omega.{arith}
 use lib.ListN.{length}

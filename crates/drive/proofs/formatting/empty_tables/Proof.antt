@@ -4,15 +4,15 @@ use Rattle.state.specs.Padded.{padded}
 use Rattle.state.specs.Table.{partitionView}
 use Rattle.lemmas.specs.Chunks.{chunks}
 use borrow.Author.Needs.{needs}
-use Rattle.drive.proofs.formatting.unused_tables.Statement.{statement}
-use Rattle.drive.proofs.formatting.unused_tables.Tie as tie
+use Rattle.drive.proofs.formatting.empty_tables.Statement.{statement}
+use Rattle.drive.proofs.formatting.empty_tables.Tie as tie
 
 returns : tie.Need-returns
 unfolding partitionView padded chunks
 returns c = refl
 
-pub unused-tables-spec : {M : Type 1} → statement M
-unused-tables-spec =
+pub empty-tables-spec : {M : Type 1} → statement M
+empty-tables-spec =
     tie.close
     (tie.spec
     (λ c. search needs) (λ c. search needs) (λ c. search needs) (λ c. search needs) (λ c. search needs) (λ c. search needs) (λ c. search needs)
