@@ -1,4 +1,4 @@
-// General definitions and laws stand in specs/. The functions here are the two that several crates' code needs.
+// General definitions and laws are in specs/. The two functions here are those that several crates' code needs.
 ghost use mathlib.Core.Path.{_≡_};
 ghost use mathlib.Core.Bool.{cond};
 ghost use Prim.Native.Nat.{min};

@@ -3,8 +3,8 @@ ghost use mathlib.Core.Path.{_≡_};
 ghost use Rattle.octets.specs.Fields.{fieldsFit, fieldsRead, fieldsWritten};
 use crate::places;
 
-// Whether fields of those widths, none of more than eight bytes, lie within len from place at on, and count of them
-// are asked for. No sum, so none that wraps.
+// Whether `count` fields of these widths, each of eight bytes at most, lie within len from place at on. It counts down the
+// bytes that are left: a sum could pass 64 bits.
 fn fields_fit(len: usize, at: usize, widths: &[usize], count: usize) -> bool
     ensures { λ r. ⌜ r ≡ fieldsFit len at (now (widths .entry)) count ⌝ }
 {

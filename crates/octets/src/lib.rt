@@ -8,7 +8,7 @@ ghost use Rattle.octets.specs.Numbers.{numberIn, numberPut, bytesPut};
 pub mod layout;
 mod places;
 
-// Whether n bytes from place at on lie within len. No sum, so none that wraps.
+// Whether n bytes from place at on lie within len. It compares differences: at + n could pass 64 bits.
 pub fn fits(len: usize, at: usize, n: usize) -> bool
     ensures { λ r. ⌜ r ≡ leb (at + n) len ⌝ }
 {

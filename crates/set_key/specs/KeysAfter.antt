@@ -16,7 +16,7 @@ use Rattle.keyring.specs.Keys.{keysSize, keysIn, keyIndex}
 use Rattle.keyring.specs.KeyLaws.{slot-key, key-put, key-some}
 use Rattle.set_key.specs.Keys.{keysAfter}
 
--- under a key that is set, as row 8 sees to it
+-- under a key that is set: row 8 refuses any other
 pub keys-after : (o : Operation) (s : Scope Object) (x : Fields) (m ks : List ℕ) → length ks ≡ keysSize
     → s .keys ≡ keysIn ks → keyIn (s .keys) (x .cred .partition) (x .cred .slot) ≡ some (signing (s .keys) x)
     → keysIn (keysAfter o (x .cred .slot) (x .cred .partition) (x .request ++ x .payload) ks)
