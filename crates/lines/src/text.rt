@@ -92,15 +92,12 @@ pub fn put(space: &mut [u8], at: usize, t: Text) -> usize
     after(space.len(), at, size)
 }
 
-// The place after n bytes from place `at` on, where they lie within len; else `at`. There is no sum that could wrap.
+// The place after n bytes from place `at` on, where they lie within len; else `at`.
 fn after(len: usize, at: usize, n: usize) -> usize
     ensures { λ r. ⌜ r ≡ placeAfter len at n ⌝ }
 {
-    if n > len {
-        return at;
+    if octets::fits(len, at, n) {
+        return at + n;
     }
-    if at > len - n {
-        return at;
-    }
-    at + n
+    at
 }

@@ -26,13 +26,13 @@ loop-again : tie.Need-loop-again Inv-loop μ-loop
 loop-again c =
     let l = c .before .before .loop in
     let a = c .before .before .before .args in
-    (search needs, rw (every-take entriesFit (a .ls .now) (l .i) 0 (omega arith), l .inv .1))
+    (search needs, rw (every-take entriesFit (a .lengths .now) (l .i) 0 (omega arith), l .inv .1))
 
 returns : tie.Need-returns Inv-loop μ-loop
 returns c =
     let l = c .before .loop in
     let a = c .before .before .args in
-    rw (take-all (l .i) (a .ls .now) (omega arith)) at (l .inv .1)
+    rw (take-all (l .i) (a .lengths .now) (omega arith)) at (l .inv .1)
 
 pub short-memories-spec : {M : Type 1} → statement M
 short-memories-spec =
