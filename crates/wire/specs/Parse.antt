@@ -14,37 +14,29 @@ use Rattle.rules.specs.Rows.{frameRows}
 use Rattle.record_rows.specs.Refusals.{recordRow}
 use Rattle.rules.specs.declared.Operation.{Operation}
 use Rattle.rules.specs.declared.Operation.the-variants.{Read, Write, Look, Raise, Create, Delete, SetKey}
+use Rattle.wire.specs.declared.OperationNumbers.{OperationNumbers}
 use Rattle.wire.specs.declared.ParsedRequest.{ParsedRequest}
 use Rattle.wire.specs.declared.Parsed.{Parsed}
 use Rattle.wire.specs.declared.Parsed.the-variants.{Fields, Refused}
 
 -- ---- an operation's numbers, "1–7", A and B; 0 for an argument that it does not carry
+abbrev pub operationNumbers : Operation → OperationNumbers
+operationNumbers (Read offset length) = record { operation = 1; a = offset; b = length }
+operationNumbers (Write offset length) = record { operation = 2; a = offset; b = length }
+operationNumbers Look = record { operation = 3; a = 0; b = 0 }
+operationNumbers Raise = record { operation = 4; a = 0; b = 0 }
+operationNumbers (Create number size) = record { operation = 5; a = number; b = size }
+operationNumbers Delete = record { operation = 6; a = 0; b = 0 }
+operationNumbers (SetKey target) = record { operation = 7; a = target; b = 0 }
+
 abbrev pub operationNumber : Operation → ℕ
-operationNumber (Read offset length) = 1
-operationNumber (Write offset length) = 2
-operationNumber Look = 3
-operationNumber Raise = 4
-operationNumber (Create number size) = 5
-operationNumber Delete = 6
-operationNumber (SetKey target) = 7
+operationNumber o = operationNumbers o .operation
 
 abbrev pub firstNumber : Operation → ℕ
-firstNumber (Read offset length) = offset
-firstNumber (Write offset length) = offset
-firstNumber Look = 0
-firstNumber Raise = 0
-firstNumber (Create number size) = number
-firstNumber Delete = 0
-firstNumber (SetKey target) = target
+firstNumber o = operationNumbers o .a
 
 abbrev pub secondNumber : Operation → ℕ
-secondNumber (Read offset length) = length
-secondNumber (Write offset length) = length
-secondNumber Look = 0
-secondNumber Raise = 0
-secondNumber (Create number size) = size
-secondNumber Delete = 0
-secondNumber (SetKey target) = 0
+secondNumber o = operationNumbers o .b
 
 -- a parsed request's numbers
 unfoldable pub numbersOf : ParsedRequest → Request

@@ -1,6 +1,6 @@
 // The parse of a frame (document 01, rows 2 to 7): its fields, or the row that refuses it.
 ghost use mathlib.Core.Path.{_≡_};
-ghost use Rattle.wire.specs.Parse.{operationNumber, firstNumber, secondNumber, numbersOf, answerOf, answerRow, frameAnswer};
+ghost use Rattle.wire.specs.Parse.{operationNumbers, numbersOf, answerOf, answerRow, frameAnswer};
 use rules::Operation;
 
 mod outcome;
@@ -13,6 +13,13 @@ pub struct ParsedRequest {
     pub time: u64,
     pub count: u32,
     pub n: u32,
+}
+
+// An operation's number in document 01, its A and its B.
+struct OperationNumbers {
+    operation: u8,
+    a: u32,
+    b: u32,
 }
 
 // The answer of the parse: the fields of credential and request, or the row that refuses the frame.
@@ -41,46 +48,46 @@ pub fn row_of(p: Parsed) -> u32
     }
 }
 
-// Document 01's number of an operation, and its A and B, 0 where the operation carries none.
-fn operation_number(o: Operation) -> u8
-    ensures { λ r. ⌜ r ≡ operationNumber o ⌝ }
+// The numbers of an operation: document 01's own, and A and B, 0 where the operation carries none.
+fn operation_numbers(o: Operation) -> OperationNumbers
+    ensures { λ r. ⌜ r ≡ operationNumbers o ⌝ }
 {
     match o {
-        Operation::Read { offset, length } => 1,
-        Operation::Write { offset, length } => 2,
-        Operation::Look => 3,
-        Operation::Raise => 4,
-        Operation::Create { number, size } => 5,
-        Operation::Delete => 6,
-        Operation::SetKey { target } => 7,
-    }
-}
-
-fn first_number(o: Operation) -> u32
-    ensures { λ r. ⌜ r ≡ firstNumber o ⌝ }
-{
-    match o {
-        Operation::Read { offset, length } => offset,
-        Operation::Write { offset, length } => offset,
-        Operation::Look => 0,
-        Operation::Raise => 0,
-        Operation::Create { number, size } => number,
-        Operation::Delete => 0,
-        Operation::SetKey { target } => target,
-    }
-}
-
-fn second_number(o: Operation) -> u32
-    ensures { λ r. ⌜ r ≡ secondNumber o ⌝ }
-{
-    match o {
-        Operation::Read { offset, length } => length,
-        Operation::Write { offset, length } => length,
-        Operation::Look => 0,
-        Operation::Raise => 0,
-        Operation::Create { number, size } => size,
-        Operation::Delete => 0,
-        Operation::SetKey { target } => 0,
+        Operation::Read { offset, length } => OperationNumbers {
+            operation: 1,
+            a: offset,
+            b: length,
+        },
+        Operation::Write { offset, length } => OperationNumbers {
+            operation: 2,
+            a: offset,
+            b: length,
+        },
+        Operation::Look => OperationNumbers {
+            operation: 3,
+            a: 0,
+            b: 0,
+        },
+        Operation::Raise => OperationNumbers {
+            operation: 4,
+            a: 0,
+            b: 0,
+        },
+        Operation::Create { number, size } => OperationNumbers {
+            operation: 5,
+            a: number,
+            b: size,
+        },
+        Operation::Delete => OperationNumbers {
+            operation: 6,
+            a: 0,
+            b: 0,
+        },
+        Operation::SetKey { target } => OperationNumbers {
+            operation: 7,
+            a: target,
+            b: 0,
+        },
     }
 }
 
@@ -89,14 +96,15 @@ pub fn numbers(request: ParsedRequest) -> rules::Request
     ensures { λ r. ⌜ r ≡ numbersOf request ⌝ }
 {
     let o = request.operation;
+    let v = operation_numbers(o);
     rules::Request {
         magic: record_rows::REQUEST_MAGIC,
-        operation: operation_number(o),
+        operation: v.operation,
         level: request.level,
         time: request.time,
         count: request.count,
-        A: first_number(o),
-        B: second_number(o),
+        A: v.a,
+        B: v.b,
         n: request.n,
     }
 }

@@ -50,8 +50,8 @@ at-fresh t = t .before .before .before .before .before .before
 abbrev at-parse : tie.After-known-told → tie.After-parse
 at-parse t = t .before .before .before
 
-abbrev at-told : tie.After-memory-of → tie.After-known-told
-at-told t = t .before
+abbrev at-fields : tie.After-memory-of → tie.After-known-told
+at-fields t = t .before
 
 abbrev at-memory : tie.After-entry-of → tie.After-memory-of
 at-memory t = t .before
@@ -85,7 +85,7 @@ abbrev start2 : tie.After-drop-outlived → tie.Start
 start2 t = start1 (at-sound (t .before))
 
 abbrev fresh-of : tie.After-entry-of → tie.After-drop-outlived
-fresh-of t = at-fresh (at-parse (at-told (at-memory t)))
+fresh-of t = at-fresh (at-parse (at-fields (at-memory t)))
 
 abbrev start3 : tie.After-is-replayed → tie.Start
 start3 t = start2 (fresh-of (at-nonce (t .before)))
@@ -203,11 +203,11 @@ parsed-of : (t : tie.After-known-told) → ParsedTo (start2 (at-fresh (at-parse 
 parsed-of t = record { answer = ap answerOf (sym (t .before .parsed .given .1)) ∙ at-parse t .parse .ensures }
 
 low-memory : (t : tie.After-memory-of) → t .memory-of .result < memoryCount
-low-memory t = let h = in-five (parsed-of (at-told t)) in omega (arith, t .memory-of .ensures)
+low-memory t = let h = in-five (parsed-of (at-fields t)) in omega (arith, t .memory-of .ensures)
 
 -- ---- the frame's scope is taken out of the drive
 found : (t : tie.After-is-replayed) → let n = at-nonce (t .before) in let d = now (fresh-of n) in
-    t .is-replayed .result ≡ some? (sameEntry (entry (cred (at-told (at-memory n))) (numbersOf (req (at-told (at-memory n))))))
+    t .is-replayed .result ≡ some? (sameEntry (entry (cred (at-fields (at-memory n))) (numbersOf (req (at-fields (at-memory n))))))
     (getD (memoriesOf (d .lengths) (d .slots) (d .holders) (d .times) (d .counts)) (at-memory n .memory-of .result) [])
 found t =
     let n = at-nonce (t .before) in
@@ -228,15 +228,15 @@ opened t =
       clock = a .clock;
       medium = a .medium .now;
       frame = a .frame .now;
-      cred = cred (at-told k);
-      request = req (at-told k);
+      cred = cred (at-fields k);
+      request = req (at-fields k);
       memory = k .memory-of .result;
       replayed = t .is-replayed .result;
       viewed = view-of D;
       counted = counted-of D;
       whole = sound-of (at-sound (D .before)) .0;
       size = sound-of (at-sound (D .before)) .1;
-      parsed = parsed-of (at-told k);
+      parsed = parsed-of (at-fields k);
       placed = k .memory-of .ensures;
       found = found t;
     }
