@@ -143,34 +143,34 @@ module _ (o : Opened) where
   abbrev pub mem : List Entry
   mem = getD all-memories k []
 
-  few-part : getD part countAt 0 ≤ mostObjects
-  few-part = leb-true (getD part countAt 0) mostObjects
+  count-fits : getD part countAt 0 ≤ mostObjects
+  count-fits = leb-true (getD part countAt 0) mostObjects
       (ap objectsFit (sym part-is) ∙ every-nth objectsFit (tablesIn partitionCount (d .tables)) i [] refl (o .counted .objects))
 
   mem-long : getD (d .lengths) k 0 ≡ length mem
   mem-long = held-long (d .lengths) (d .slots) (d .holders) (d .times) (d .counts) (o .counted .memories) k k-low
 
   -- ---- it is the frame's own scope of the drive
-  home-is : driveScope (view d) (x .cred) .partition ≡ partitionIn part
+  own-partition : driveScope (view d) (x .cred) .partition ≡ partitionIn part
   unfolding view partitionView padded
-  home-is =
+  own-partition =
       ap (λ (j : ℕ). getD (map partitionView (tablesIn partitionCount (d .tables))) j (emptyPartition 0)) (sym (partition-is (o .parsed)))
-      ∙ List·getD-map partitionView (tablesIn partitionCount (d .tables)) i [] ∙ ap partitionView part-is ∙ view-is part long-part few-part
+      ∙ List·getD-map partitionView (tablesIn partitionCount (d .tables)) i [] ∙ ap partitionView part-is ∙ view-is part long-part count-fits
 
-  held-is : driveScope (view d) (x .cred) .memory ≡ mem
+  own-memory : driveScope (view d) (x .cred) .memory ≡ mem
   unfolding view
-  held-is = ap (λ (j : ℕ). getD all-memories j []) (sym k-is)
+  own-memory = ap (λ (j : ℕ). getD all-memories j []) (sym k-is)
 
   sound-d : sound (view d) ≡ true
   sound-d = ap sound (o .viewed) ∙ refresh-sound (o .clock) (view (o .lent)) (o .whole)
 
   sound-part : soundPartition (quarter (d .size)) (partitionIn part) ≡ true
   unfolding view
-  sound-part = ap (soundPartition (quarter (d .size))) (sym home-is)
+  sound-part = ap (soundPartition (quarter (d .size))) (sym own-partition)
       ∙ at-sound (quarter (view d .size)) (view d .tables) (x .cred .partition) (tables-of (view d) sound-d)
 
   sound-mem : length mem ≤ mostEntries
-  sound-mem = leb-true (length mem) mostEntries (ap (λ (l : List Entry). leb (length l) mostEntries) (sym held-is)
+  sound-mem = leb-true (length mem) mostEntries (ap (λ (l : List Entry). leb (length l) mostEntries) (sym own-memory)
       ∙ every-nth short-list (view d .memories) (memoryIndex (x .cred)) [] refl (memories-of (view d) sound-d))
 
   row1-no : row1 (view (o .lent)) m ≡ false
@@ -209,8 +209,8 @@ module _ (o : Opened) where
     quarter = quarter (d .size);
     highWater = d .highwater;
     keys = keysIn (d .keys);
-    partition = home-is i;
-    memory = held-is i;
+    partition = own-partition i;
+    memory = own-memory i;
   }
 
   -- ---- an outcome, and what the gate makes of it
@@ -284,7 +284,7 @@ module _ (o : Opened) where
         -- and so is the partition
         changed : (partitionIn u ≡ perform (o .request .operation) scope x m .scope .partition)
             × (getD u countAt 0 ≤ mostObjects) × (length u ≡ tableSize)
-        changed = applied-is part u (o .request .operation) scope x m (out .nextversion) (out .newstart) long-part few-part refl
+        changed = applied-is part u (o .request .operation) scope x m (out .nextversion) (out .newstart) long-part count-fits refl
             (given .fits grant) (subst (λ (e : Credential). HasContent part u
             (contentAfter (o .request .operation) (e .object) (out .nextversion) (out .newstart) part)) c-is became)
 

@@ -1,16 +1,16 @@
 -- What is known of a frame that no row refuses (`Clear`), up to what a grant needs (`grant`).
 use mathlib.Core.Path.{_∙_, _≡_, ap, refl, subst}
 use mathlib.Core.Bool.{_||_, Bool, cond, false, not, true}
-use mathlib.Core.List.{[], _++_, _∷_, List, List·Memᴰ}
+use mathlib.Core.List.{[], _∷_, List, List·Memᴰ}
 use Prim.Native.Nat.{_+_, _<_, _≤_, suc, zero, ℕ}
 use native.Mathlib.Omega.{arith}
 use lib.ListN.{getD, length}
-use borrow.Author.Tests.{eq-eqb, eqb-false, eqb-true, lt-ltb, ltb-false, ne-eqb, not-false, not-true}
+use borrow.Author.Tests.{eq-eqb, eqb-false, eqb-true, lt-ltb, ltb-false, ne-eqb, not-false}
 use Rattle.lemmas.specs.ListLaws.{not-found}
 use Rattle.lemmas.specs.Lists.{every, find, missing}
 use Rattle.lemmas.specs.Parts.{length-part}
-use Rattle.lemmas.specs.RowTable.{applies, firstRow, line, none-applies, numbered, Row, rows-zero}
-use Rattle.lemmas.specs.Tests.{_is_, _isnt_, _over_, _under_, and-rest-false, and-l, and-r, none-of, or-intro-l, or-l, or-r}
+use Rattle.lemmas.specs.RowTable.{applies, firstRow, line, none-applies, Row, rows-zero}
+use Rattle.lemmas.specs.Tests.{_is_, _isnt_, _over_, _under_, and-rest-false, none-of, or-intro-l, or-l, or-r}
 use Rattle.rules.specs.declared.Object.{Object}
 use Rattle.rules.specs.declared.Request.{Request}
 use Rattle.rules.specs.BestFit.{bestFit, extentStep}

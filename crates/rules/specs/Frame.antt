@@ -36,7 +36,8 @@ requestStart = credentialSize
 abbrev pub dataStart : ℕ
 dataStart = requestStart + requestSize
 
--- ---- the credential: its fields' widths in bytes, in their order. `magic` is the document's mark, `zero` its byte 15
+-- ---- the credential: its fields' widths in bytes, in their order, so that they start at 0, 2, 3, 4, 8, 12, 14, 15, 16,
+-- 20, 24 and 32. `magic` is the document's mark, `zero` its byte 15
 abbrev pub credentialWidths : List ℕ
 credentialWidths = 2 ∷ 1 ∷ 1 ∷ 4 ∷ 4 ∷ 2 ∷ 1 ∷ 1 ∷ 4 ∷ 4 ∷ 8 ∷ 4 ∷ []
 
@@ -72,7 +73,7 @@ credentialBytes c = encode credentialWidths (credentialNumbers c)
 abbrev pub credentialMagic : ℕ
 credentialMagic = 0x4c43
 
--- ---- the request, in the same way
+-- ---- the request, in the same way: its fields start at 0, 2, 3, 4, 12, 16, 20 and 24
 abbrev pub requestWidths : List ℕ
 requestWidths = 2 ∷ 1 ∷ 1 ∷ 8 ∷ 4 ∷ 4 ∷ 4 ∷ 4 ∷ []
 
