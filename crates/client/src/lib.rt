@@ -8,7 +8,7 @@ mod rows;
 // Row 0 and the credential key; or the row and 32 zero bytes.
 pub struct Issued {
     pub row: u32,
-    pub key: [u8; fields::KEY_SIZE],
+    pub key: [u8; rules::KEY_SIZE],
 }
 
 // Row 0 and the frame's length; or the row and length 0.
@@ -23,7 +23,7 @@ pub fn issue(c: rules::Credential, key: &[u8], space: &mut [u8]) -> Issued
 {
     let row = rows::issue_row(c, key.len(), space.len());
     if row != 0 {
-        let zeros = [0u8; fields::KEY_SIZE];
+        let zeros = [0u8; rules::KEY_SIZE];
         return Issued { row, key: zeros };
     }
     credential_bytes::put_credential(c, space);

@@ -18,7 +18,7 @@ pub fn issue_row(c: rules::Credential, key: usize, space: usize) -> u32
 {
     let row = pick(space < fields::CREDENTIAL_SIZE, 29, 0);
     let row = pick(record_rows::bad_credential(c), 28, row);
-    pick(key != fields::KEY_SIZE, 26, row)
+    pick(key != rules::KEY_SIZE, 26, row)
 }
 
 // The builder's row, of n bytes of data, a key and a space of those lengths.
@@ -32,7 +32,7 @@ pub fn build_row(credential: &[u8], request: &[u8], n: usize, key: usize, space:
         28,
         row,
     );
-    pick(key != fields::KEY_SIZE, 26, row)
+    pick(key != rules::KEY_SIZE, 26, row)
 }
 
 // The digest of a frame: over credential and request, and the data too from level 1.
@@ -42,7 +42,7 @@ pub fn frame_digest(
     bytes: &[u8],
     key: &[u8],
     level: u8,
-) -> [u8; fields::DIGEST_SIZE]
+) -> [u8; rules::DIGEST_SIZE]
     ensures { λ d. ⌜ d ≡ hmac (now (key .entry)) (covered level (now (credential .entry)) (now (request .entry)) (now (bytes .entry))) ⌝ }
 {
     if level == 0 {
@@ -56,7 +56,7 @@ pub fn join(
     credential: &[u8],
     request: &[u8],
     bytes: &[u8],
-    digest: &[u8; fields::DIGEST_SIZE],
+    digest: &[u8; rules::DIGEST_SIZE],
     space: &mut [u8],
 )
     requires { ⌜ (length (now credential) ≡ credentialSize) × (length (now request) ≡ requestSize) × (leastFrame + length (now bytes) ≤ length (now space)) ⌝ }

@@ -18,7 +18,7 @@ use Rattle.rules.specs.declared.Request.{Request}
 use Rattle.rules.specs.declared.Entry.{Entry}
 use Rattle.rules.specs.declared.Object.{Object}
 use Rattle.rules.specs.declared.Operation.{Operation}
-use Rattle.rules.specs.Frame.{Fields, fields, digestSize, covered, entry, operation, operationOf}
+use Rattle.rules.specs.Frame.{Fields, fields, digestSize, covered, entry, operation, operationOf, keySize}
 use Rattle.rules.specs.Drive.{quarter, mostEntries}
 use Rattle.rules.specs.Scope.{Scope}
 use Rattle.rules.specs.Operations.{
@@ -39,7 +39,7 @@ use Rattle.rules.proofs.Clear.{Clear, clear22}
 use Rattle.rules.proofs.Memories.{room-left}
 use Rattle.wire.specs.declared.ParsedRequest.{ParsedRequest}
 use Rattle.wire.specs.Parse.{numbersOf, frameRow}
-use Rattle.keyring.specs.Keys.{keySize, keysIn}
+use Rattle.keyring.specs.Keys.{keysIn, keyIndex}
 use Rattle.state.specs.declared.Lookup.{Lookup}
 use Rattle.state.specs.Table.{objectsIn, partitionIn, lookupIn}
 use Rattle.judge.specs.declared.ScopeFacts.{ScopeFacts}
@@ -152,7 +152,7 @@ module _ {s : ScopeFacts} {ks t : List ℕ} {l : List Entry} {m f : List ℕ} {c
   -- ---- a refusal
   module _ (space : List ℕ) where
     pub refusal-given : (r : Outcome) (n : ℕ) → firstRow (table space) ≡ n → (n ≡ 0 → ⊥)
-        → r ≡ record { row = n; length = 0; nextversion = 0; newstart = 0 }
+        → r ≡ record { row = n; length = 0; key = 0; nextversion = 0; newstart = 0 }
         → OutcomeMet S m f space (request .operation) r m space
     unfolding scopeAnswer
     refusal-given r n first z e = record {
@@ -161,6 +161,7 @@ module _ {s : ScopeFacts} {ks t : List ℕ} {l : List Entry} {m f : List ℕ} {c
       medium = ap Answer.medium (sym answer);
       space = ap Answer.space (sym answer);
       set = λ k. absurd (z (sym (ap Outcome.row e) ∙ k));
+      key = λ k. absurd (z (sym (ap Outcome.row e) ∙ k));
       fits = λ k. absurd (z (sym (ap Outcome.row e) ∙ k));
     }
       where
@@ -229,13 +230,14 @@ module _ {s : ScopeFacts} {ks t : List ℕ} {l : List Entry} {m f : List ℕ} {c
         placed-y = p .placed ∙ ap (placementFor (quarter (s .size)) (objectsIn t)) r-is
 
         pub granted-given : {secret : List ℕ} → keyIn (keysIn ks) (c .partition) (c .slot) ≡ some secret
+            → (j : ℕ) → j ≡ keyIndex (c .slot) (c .partition)
             → (k : GrantContext) → k ≡ grantContext (s .size) (partitionIn t) c found place
             → (after replied : List ℕ) → after ≡ mediumAfter (request .operation) k (y .payload) m
             → replied ≡ replyPut (credentialKey (keysIn ks) y) (y .credential ++ y .request) r n (request .operation) k m space
             → OutcomeMet S m f space (request .operation)
-            (record { row = 0; length = whole; nextversion = k .nextversion; newstart = k .newstart }) after replied
+            (record { row = 0; length = whole; key = j; nextversion = k .nextversion; newstart = k .newstart }) after replied
         unfolding granted
-        granted-given set k k-is after replied medium-e reply-e = record {
+        granted-given set j j-is k k-is after replied medium-e reply-e = record {
           row = ap Answer.row (sym (answer space first));
           length = whole-is ∙ ap replyLength r-is ∙ ap Answer.length (sym (answer space first));
           medium = medium-e ∙ ap (λ (o : Operation). mediumAfter o k (y .payload) m) (sym name-is)
@@ -247,6 +249,7 @@ module _ {s : ScopeFacts} {ks t : List ℕ} {l : List Entry} {m f : List ℕ} {c
               k m space) r-is
               ∙ reply-is (operationOf y) S y m k fits bytes n n-is space room ∙ ap Answer.space (sym (answer space first));
           set = λ z. set-is set;
+          key = λ z. j-is ∙ ap (λ (h : Credential). keyIndex (h .slot) (h .partition)) c-is;
           fits = λ z. changes;
         }
           where

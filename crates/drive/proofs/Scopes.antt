@@ -252,7 +252,7 @@ module _ (o : Opened) where
       pub has-room : getD (d .lengths) k 0 < mostEntries
       has-room = let room = memory-room ready space no-row in omega (arith, mem-long)
 
-      module _ (ks u : List ℕ) (keyed : ks ≡ keysAfter (o .request .operation) (o .cred .slot) (o .cred .partition)
+      module _ (ks u : List ℕ) (keyed : ks ≡ keysAfter (o .request .operation) (out .key) (o .cred .slot) (o .cred .partition)
           (x .request ++ x .payload) (d .keys))
           (became : HasContent part u (contentAfter (o .request .operation) (o .cred .object) (out .nextversion) (out .newstart) part))
           (nonce : Entry) (is-nonce : nonce ≡ entry (o .cred) (numbersOf (o .request))) (ns s h t n : List ℕ)
@@ -276,9 +276,9 @@ module _ (o : Opened) where
         -- the keys are the answer's
         keys-in : keysIn ks ≡ a .drive .keys
         keys-in = ap keysIn keyed
-            ∙ ap (λ (e : Credential). keysIn (keysAfter (o .request .operation) (e .slot) (e .partition)
+            ∙ ap (λ (e : Credential). keysIn (keysAfter (o .request .operation) (out .key) (e .slot) (e .partition)
             (x .request ++ x .payload) (d .keys))) c-is
-            ∙ keys-after (o .request .operation) scope x m (d .keys) (o .counted .keys) refl (given .set grant)
+            ∙ keys-after (o .request .operation) scope x m (d .keys) (out .key) (given .key grant) (o .counted .keys) refl (given .set grant)
             ∙ sym (keys-performed ready space no-row)
 
         -- and so is the partition

@@ -24,7 +24,7 @@ use Rattle.rules.specs.Gate.{Answer, refused, granted}
 use Rattle.wire.specs.declared.ParsedRequest.{ParsedRequest}
 use Rattle.wire.specs.declared.Parsed.the-variants.{Fields as Parsed·Fields}
 use Rattle.wire.specs.Parse.{answerOf, frameAnswer, numbersOf}
-use Rattle.keyring.specs.Keys.{keysSize, keysIn}
+use Rattle.keyring.specs.Keys.{keysSize, keysIn, keyIndex}
 use Rattle.state.specs.declared.Lookup.{Lookup}
 use Rattle.state.specs.Table.{tableSize, partitionIn}
 use Rattle.judge.specs.declared.ScopeFacts.{ScopeFacts}
@@ -82,7 +82,7 @@ pub record AdmitRequires (s : ScopeFacts) (ks t : List ℕ) (l : List Entry) (m 
   pub table : length t ≡ tableSize
 
 -- an outcome is the rules' answer to the frame f, of the scope s, the medium m and the reply space lent; and at a grant
--- the key in the frame's slot is set, and the next version and the new extent's start are those that operation o puts
+-- the key in the frame's slot is set and its index found, and the next version and the new extent's start are those that operation o puts
 -- into the table
 pub record OutcomeMet (s : Scope Object) (m f lent : List ℕ) (o : Operation) (r : Outcome)
     (after replied : List ℕ) : Type 0 where
@@ -92,4 +92,5 @@ pub record OutcomeMet (s : Scope Object) (m f lent : List ℕ) (o : Operation) (
   pub space : replied ≡ scopeAnswer s m (fields f) lent .space
   pub set : r .row ≡ 0
       → keyIn (s .keys) (fields f .cred .partition) (fields f .cred .slot) ≡ some (signing (s .keys) (fields f))
+  pub key : r .row ≡ 0 → r .key ≡ keyIndex (fields f .cred .slot) (fields f .cred .partition)
   pub fits : r .row ≡ 0 → ChangeFits o s (r .nextversion) (r .newstart)

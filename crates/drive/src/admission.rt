@@ -24,12 +24,12 @@ use digest::mac::Mac;
 use effect::GrantContext;
 use fields::CREDENTIAL_SIZE;
 use fields::DATA_START;
-use fields::DIGEST_SIZE;
 use judge::ScopeFacts;
-use keyring::KEY;
 use lemmas::pick;
 use placing::Place;
 use rules::Credential;
+use rules::DIGEST_SIZE;
+use rules::KEY_SIZE;
 use rules::Operation;
 use rules::Request;
 use state::LAST;
@@ -132,11 +132,12 @@ fn grant(
 
 // A refusal: nothing changes.
 fn refusal(row: u32) -> Outcome
-    ensures { λ r. ⌜ r ≡ record { row = row; length = 0; nextversion = 0; newstart = 0 } ⌝ }
+    ensures { λ r. ⌜ r ≡ record { row = row; length = 0; key = 0; nextversion = 0; newstart = 0 } ⌝ }
 {
     Outcome {
         row,
         length: 0,
+        key: 0,
         nextversion: 0,
         newstart: 0,
     }
@@ -163,8 +164,8 @@ pub fn admit(
     if !keyring::is_set(keys, j) {
         return refusal(8);
     }
-    let from = KEY * j;
-    let to = from + KEY;
+    let from = KEY_SIZE * j;
+    let to = from + KEY_SIZE;
     let hash = records_mac(&keys[from..to], frame);
     if !is_signed(hash, frame, request.level) {
         return refusal(9);
@@ -184,15 +185,16 @@ pub fn admit(
     Outcome {
         row: 0,
         length: length as usize,
+        key: j,
         nextversion: context.nextversion,
         newstart: context.newstart,
     }
 }
 
-// The keys after a grant.
-pub fn change_keys(keys: &mut [u8], frame: &[u8], c: Credential, request: ParsedRequest)
+// The keys after a grant under key `j`.
+pub fn change_keys(keys: &mut [u8], frame: &[u8], j: usize, c: Credential, request: ParsedRequest)
     requires { ⌜ length (now frame) ≡ leastFrame + fields (now frame) .req .n ⌝ }
-    ensures { λ _. ⌜ now (keys .exit) ≡ keysAfter (request .operation) (c .slot) (c .partition)
+    ensures { λ _. ⌜ now (keys .exit) ≡ keysAfter (request .operation) j (c .slot) (c .partition)
         (fields (now (frame .entry)) .request ++ fields (now (frame .entry)) .payload) (now (keys .entry)) ⌝ }
 {
     let o = request.operation;
@@ -200,6 +202,7 @@ pub fn change_keys(keys: &mut [u8], frame: &[u8], c: Credential, request: Parsed
     set_key::apply(
         keys,
         o,
+        j,
         c.slot,
         c.partition as usize,
         &frame[CREDENTIAL_SIZE..end],

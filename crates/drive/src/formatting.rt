@@ -5,16 +5,17 @@ ghost use mathlib.Core.List.{[], _∷_, map};
 ghost use lib.ListN.{replicate};
 ghost use Rattle.lemmas.specs.Tests.{_over_, _is_, _isnt_};
 ghost use Rattle.lemmas.specs.RowTable.{line, firstRow};
+ghost use Rattle.rules.specs.Frame.{keySize};
 ghost use Rattle.rules.specs.Drive.{largestMedium, emptyPartition, newDrive};
-ghost use Rattle.keyring.specs.Keys.{partitionCount, keySize, keysIn};
+ghost use Rattle.keyring.specs.Keys.{partitionCount, keysIn};
 ghost use Rattle.state.specs.Table.{partitionView};
 ghost use Rattle.drive.specs.View.{view, tablesIn};
 use super::Drive;
 use super::TABLES;
-use keyring::KEY;
 use keyring::KEYS;
 use memory::MEMORIES;
 use memory::PLACES;
+use rules::KEY_SIZE;
 use rules::LARGEST_MEDIUM;
 use state::LAST;
 use state::TABLE;
@@ -24,7 +25,7 @@ use state::VERSION;
 pub fn format_row(size: usize, first: u32, master: usize, key: usize) -> u32
     ensures { λ r. ⌜ r ≡ firstRow (line 24 (size over largestMedium) ∷ line 25 (first is 0) ∷ line 26 (master isnt keySize || key isnt keySize) ∷ []) ⌝ }
 {
-    let r26 = lemmas::pick((master != KEY) | (key != KEY), 26, 0);
+    let r26 = lemmas::pick((master != KEY_SIZE) | (key != KEY_SIZE), 26, 0);
     let r25 = lemmas::pick(first == 0, 25, r26);
     lemmas::pick(size > LARGEST_MEDIUM, 24, r25)
 }

@@ -55,10 +55,12 @@ struct Core {
     highwater: u64,
 }
 
-// Row and reply length; and what a grant puts into its partition's table: the next version, a new extent's start.
+// Row and reply length; and of a grant the index of its slot's key, and what it puts into its partition's table: the next
+// version, a new extent's start.
 struct Outcome {
     row: u32,
     length: usize,
+    key: usize,
     nextversion: u32,
     newstart: u32,
 }
@@ -143,7 +145,7 @@ pub fn gate(drive: Drive, medium: &mut [u8], frame: &[u8], clock: u64, reply: &m
     if out.row != 0 {
         return answered(core, keys, tables, lengths, slots, holders, times, counts);
     }
-    admission::change_keys(&mut keys, frame, c, request);
+    admission::change_keys(&mut keys, frame, out.key, c, request);
     let o = request.operation;
     partition::apply(
         &mut tables[at..end],

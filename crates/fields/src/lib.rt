@@ -2,21 +2,16 @@
 ghost use mathlib.Core.Path.{_≡_};
 ghost use Rattle.fields.specs.Records.{credentialIn, requestIn};
 
-// A key's length.
-pub const KEY_SIZE: usize = 32;
-
 // The lengths of a frame's parts, where request and data start in it, and how long it is without data.
 pub const CREDENTIAL_SIZE: usize = 36;
 
 pub const REQUEST_SIZE: usize = 28;
 
-pub const DIGEST_SIZE: usize = 32;
-
 pub const REQUEST_START: usize = CREDENTIAL_SIZE;
 
 pub const DATA_START: usize = REQUEST_START + REQUEST_SIZE;
 
-pub const LEAST_FRAME: usize = DATA_START + DIGEST_SIZE;
+pub const LEAST_FRAME: usize = DATA_START + rules::DIGEST_SIZE;
 
 // The layouts: how many fields there are, and their widths in bytes, in their order.
 pub const CREDENTIAL_FIELDS: usize = 12;

@@ -11,7 +11,8 @@ use Rattle.lemmas.specs.Tests.{_under_, _is_}
 use Rattle.lemmas.specs.Lists.{splice}
 use Rattle.lemmas.specs.Parts.{length-splice}
 use Rattle.octets.specs.Numbers.{bytesPut}
-use Rattle.keyring.specs.Keys.{masterKeyAt, driveKeyAt, partitionKeysFrom, working1From, working0From, keysSize, flagsFrom, keyCount, keySize, indexAmongFour, keyIndex, keyStored}
+use Rattle.rules.specs.Frame.{keySize}
+use Rattle.keyring.specs.Keys.{masterKeyAt, driveKeyAt, partitionKeysFrom, working1From, working0From, keysSize, flagsFrom, keyCount, indexAmongFour, keyIndex, keyStored}
 use Rattle.keyring.specs.KeyLaws.{fits-yes}
 
 pub from-five : (n : ℕ) → (n ≡ 0 → ⊥) → (n ≡ 1 → ⊥) → (n ≡ 2 → ⊥) → (n ≡ 3 → ⊥) → (n ≡ 4 → ⊥) → 5 ≤ n

@@ -13,6 +13,7 @@ use borrow.Author.Tests.{lt-ltb, le-ltb, eq-eqb, eqb-true, eqb-false, ltb-true}
 use Rattle.lemmas.specs.Tests.{_under_, _is_, _isnt_, and-l, and-r}
 use Rattle.lemmas.specs.Lists.{part, splice, update}
 use Rattle.lemmas.specs.Parts.{length-splice, splice-before, splice-in, splice-after, part-apart, part-new}
+use Rattle.rules.specs.Frame.{keySize}
 use Rattle.rules.specs.Drive as rules
 use Rattle.rules.specs.Operations.{keyIn, withDriveKey, withPartitionKey, withWorking0, withWorking1, keyPut}
 use Rattle.keyring.specs.Keys.{
@@ -23,7 +24,6 @@ use Rattle.keyring.specs.Keys.{
   driveKeyAt,
   masterKeyAt,
   keyCount,
-  keySize,
   flagsFrom,
   keysSize,
   keyAt,

@@ -9,6 +9,7 @@ use Prim.Native.Nat.{ℕ, _+_, _*_}
 use lib.ListN.{length, getD, replicate}
 use Rattle.lemmas.specs.Tests.{_under_, _is_, _isnt_}
 use Rattle.lemmas.specs.Lists.{part, splice}
+use Rattle.rules.specs.Frame.{keySize}
 use Rattle.rules.specs.Drive as rules
 
 -- ---- places of keys
@@ -34,10 +35,7 @@ masterKeyAt = driveKeyAt + 1
 abbrev pub keyCount : ℕ
 keyCount = masterKeyAt + 1
 
--- ---- places of bytes: the bytes of a key, the first of those that say which keys are set, and all bytes
-abbrev pub keySize : ℕ
-keySize = 32
-
+-- ---- places of bytes: the first of those that say which keys are set, and all bytes
 abbrev pub flagsFrom : ℕ
 flagsFrom = keySize * keyCount
 

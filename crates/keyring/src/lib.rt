@@ -4,6 +4,7 @@
 ghost use mathlib.Core.Path.{_≡_};
 ghost use Prim.Native.Nat.{_≤_};
 ghost use Rattle.keyring.specs.Keys.{partitionKeysFrom, isSet, indexAmongFour, keyIndex, targetIndex, keyStored, formattedKeys};
+use rules::KEY_SIZE;
 
 // Places of keys, as in specs/Keys.antt.
 pub const PARTITIONS: usize = 4;
@@ -21,10 +22,8 @@ const MASTER_KEY: usize = DRIVE_KEY + 1;
 // How many keys there are; as a place it is no key's.
 pub const KEY_COUNT: usize = MASTER_KEY + 1;
 
-// The bytes of a key, the first of those that say which keys are set, and all bytes.
-pub const KEY: usize = 32;
-
-const FLAGS: usize = KEY * KEY_COUNT;
+// The first of the bytes that say which keys are set, and all bytes.
+const FLAGS: usize = KEY_SIZE * KEY_COUNT;
 
 pub const KEYS: usize = FLAGS + KEY_COUNT;
 
@@ -82,11 +81,11 @@ pub fn is_set(keys: &[u8], j: usize) -> bool
 fn store_at(keys: &mut [u8], j: usize, new: &[u8])
     ensures { λ _. ⌜ now (keys .exit) ≡ keyStored j (now (new .entry)) (now (keys .entry)) ⌝ }
 {
-    let fits = (j < KEY_COUNT) & (keys.len() == KEYS) & (new.len() == KEY);
+    let fits = (j < KEY_COUNT) & (keys.len() == KEYS) & (new.len() == KEY_SIZE);
     if !fits {
         return;
     }
-    octets::copy_to(keys, KEY * j, new);
+    octets::copy_to(keys, KEY_SIZE * j, new);
     keys[FLAGS + j] = 1;
 }
 
@@ -102,7 +101,7 @@ pub fn new_keys(master: &[u8], drive: &[u8]) -> [u8; KEYS]
     ensures { λ r. ⌜ r ≡ formattedKeys (now (master .entry)) (now (drive .entry)) ⌝ }
 {
     let mut keys = [0u8; KEYS];
-    let fits = (master.len() == KEY) & (drive.len() == KEY);
+    let fits = (master.len() == KEY_SIZE) & (drive.len() == KEY_SIZE);
     if !fits {
         return keys;
     }

@@ -10,7 +10,7 @@ use lemmas::pick;
 // The lengths of a reply's head and of its digest.
 pub const HEAD_SIZE: usize = 8;
 
-const SEAL_SIZE: u32 = 32;
+const SEAL_SIZE: u32 = rules::DIGEST_SIZE as u32;
 
 // The lengths of a look's result, of size and version, and of a raise's or a create's, of the new version.
 const LOOK_SIZE: u32 = 8;

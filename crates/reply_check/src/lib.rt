@@ -65,7 +65,7 @@ fn check_row(credential: &[u8], request: &[u8], key: &[u8], reply: &[u8]) -> u32
         28,
         0,
     );
-    let row = pick(key.len() != fields::KEY_SIZE, 26, row);
+    let row = pick(key.len() != rules::KEY_SIZE, 26, row);
     if row != 0 {
         return row;
     }

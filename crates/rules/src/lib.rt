@@ -12,6 +12,11 @@ pub const TIME_WINDOW: u64 = 5000;
 
 pub const LAST_VERSION: u32 = 4294967295;
 
+// The lengths of a key and of a digest.
+pub const KEY_SIZE: usize = 32;
+
+pub const DIGEST_SIZE: usize = 32;
+
 // Credential, 36 bytes: one number for each field, in its order.
 pub struct Credential {
     pub magic: u16,

@@ -21,7 +21,7 @@ const LINE_LIMIT: u64 = 100000;
 // The sizes of the drive's tables, and of a key.
 const TABLES: usize = drive::TABLES;
 
-const KEY_SIZE: usize = keyring::KEY;
+const KEY_SIZE: usize = rules::KEY_SIZE;
 
 const MEDIUM_SIZE: usize = 400;
 

@@ -17,7 +17,7 @@ const TABLE: usize = state::TABLE;
 
 const KEY_COUNT: usize = keyring::KEY_COUNT;
 
-const KEY_SIZE: usize = keyring::KEY;
+const KEY_SIZE: usize = rules::KEY_SIZE;
 
 // Where a partition's table has its last version and its count of objects; where the numbers, versions, sizes and starts
 // of its objects begin.

@@ -5,7 +5,8 @@ use lib.ListN.{length}
 use borrow.Author.Needs.{needs}
 use borrow.Author.Tests.{not-true, not-false}
 use Rattle.lemmas.specs.Tests.{_is_}
-use Rattle.keyring.specs.Keys.{keySize, formattedKeys}
+use Rattle.rules.specs.Frame.{keySize}
+use Rattle.keyring.specs.Keys.{formattedKeys}
 use Rattle.keyring.proofs.new_keys.Statement.{statement}
 use Rattle.keyring.proofs.new_keys.Tie as tie
 

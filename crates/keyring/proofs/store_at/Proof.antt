@@ -11,7 +11,8 @@ use Rattle.keyring.specs.KeyLaws.{fits-yes, fits-not}
 use Rattle.keyring.proofs.Places.{copied-length, stored}
 use Rattle.keyring.proofs.store_at.Statement.{statement}
 use Rattle.keyring.proofs.store_at.Tie as tie
-use Rattle.keyring.specs.Keys.{keysSize, keyCount, keySize}
+use Rattle.rules.specs.Frame.{keySize}
+use Rattle.keyring.specs.Keys.{keysSize, keyCount}
 
 fits : (t : tie.Else1) → let a = t .before .before .before .args in
     (a .j under keyCount && length (a .keys .now) is keysSize && length (a .new .now) is keySize) ≡ true

@@ -15,7 +15,8 @@ use Rattle.rules.specs.declared.Operation.the-variants.{Read, Write, Look, Rais
 use Rattle.rules.proofs.Operation.{the-type}
 use Rattle.lemmas.specs.Lists.{part}
 use Rattle.digest.specs.Hmac.{hmac}
-use Rattle.keyring.specs.Keys.{keysSize, keyCount, keySize, isSet, keyIndex, targetIndex, keyStored}
+use Rattle.rules.specs.Frame.{keySize}
+use Rattle.keyring.specs.Keys.{keysSize, keyCount, isSet, targetIndex, keyStored}
 use Rattle.keyring.specs.KeyLaws.{set-there}
 use Rattle.set_key.specs.Keys.{keysAfter}
 use Rattle.set_key.proofs.apply.Statement.{statement}
@@ -31,68 +32,74 @@ not-six (inr (inr (inr (inr (inl e))))) = absurd (omega arith)
 not-six (inr (inr (inr (inr (inr e))))) = absurd (omega arith)
 
 -- the other operations
-stays : (o : Operation) (slot p : ℕ) (signed ks : List ℕ) → OneOf (0 ∷ 1 ∷ 2 ∷ 3 ∷ 4 ∷ 5 ∷ []) (tagOf the-type o)
-    → ks ≡ keysAfter o slot p signed ks
-stays (Read a b) slot p signed ks h = refl
-stays (Write a b) slot p signed ks h = refl
-stays Look slot p signed ks h = refl
-stays Raise slot p signed ks h = refl
-stays (Create a b) slot p signed ks h = refl
-stays Delete slot p signed ks h = refl
-stays (SetKey a) slot p signed ks h = absurd (not-six h)
+stays : (o : Operation) (j slot p : ℕ) (signed ks : List ℕ) → OneOf (0 ∷ 1 ∷ 2 ∷ 3 ∷ 4 ∷ 5 ∷ []) (tagOf the-type o)
+    → ks ≡ keysAfter o j slot p signed ks
+stays (Read a b) j slot p signed ks h = refl
+stays (Write a b) j slot p signed ks h = refl
+stays Look j slot p signed ks h = refl
+stays Raise j slot p signed ks h = refl
+stays (Create a b) j slot p signed ks h = refl
+stays Delete j slot p signed ks h = refl
+stays (SetKey a) j slot p signed ks h = absurd (not-six h)
 
 -- operation 7, by whether the signing key, key j, is set
-module _ (target slot p j : ℕ) (signed ks : List ℕ) (e : j ≡ keyIndex slot p) where
-  unset : isSet ks j ≡ false → ks ≡ keysAfter (SetKey target) slot p signed ks
-  unset h = rw (rw e at h) refl
+module _ (target slot p j : ℕ) (signed ks : List ℕ) where
+  unset : isSet ks j ≡ false → ks ≡ keysAfter (SetKey target) j slot p signed ks
+  unset h = rw h refl
 
   put : (new s : List ℕ) → isSet ks j ≡ true → new ≡ hmac (take (keySize * j + keySize - keySize * j) (drop (keySize * j) ks)) signed
-      → s ≡ keyStored (targetIndex slot p target) new ks → s ≡ keysAfter (SetKey target) slot p signed ks
+      → s ≡ keyStored (targetIndex slot p target) new ks → s ≡ keysAfter (SetKey target) j slot p signed ks
   unfolding part
   put new s h n k =
       let c : keySize * j + keySize - keySize * j ≡ keySize = omega arith in
-      k ∙ (rw (rw e at h, rw (c, e) at n) refl)
+      k ∙ (rw (h, rw c at n) refl)
 
-there : (t : tie.Else1) → let a = t .before .before .before .before .before .before .before .before .before .args in
-    isSet (a .keys .now) (t .before .before .before .key-index .result) ≡ true
+-- ---- the places, each by its neighbour
+abbrev at-told : tie.After-is-set → tie.After-known-told
+at-told t = t .before .before
+
+abbrev at-start : tie.After-known-told → tie.Start
+at-start t = t .before .before .before .before .before
+
+abbrev start1 : tie.Else1 → tie.Start
+start1 t = at-start (at-told (t .before))
+
+there : (t : tie.Else1) → let a = start1 t .args in isSet (a .keys .now) (a .j) ≡ true
 there t = sym (t .before .is-set .ensures) ∙ not-false (t .before .is-set .result) (t .if1 .left)
 
-inside : (t : tie.Else1) → let a = t .before .before .before .before .before .before .before .before .before .args in
-    (length (a .keys .now) ≡ keysSize) × (t .before .before .before .key-index .result < keyCount)
-inside t =
-    let a = t .before .before .before .before .before .before .before .before .before .args in
-    set-there (a .keys .now) (t .before .before .before .key-index .result) (there t)
+inside : (t : tie.Else1) → let a = start1 t .args in (length (a .keys .now) ≡ keysSize) × (a .j < keyCount)
+inside t = let a = start1 t .args in set-there (a .keys .now) (a .j) (there t)
 
 returns : tie.Need-returns
 returns c =
     let a = c .before .before .before .args in
-    stays (a .o) (a .slot) (a .p) (a .signed .now) (a .keys .now) (c .match .keys2)
+    stays (a .o) (a .j) (a .slot) (a .p) (a .signed .now) (a .keys .now) (c .match .keys2)
 
 returns-2 : tie.Need-returns-2
 returns-2 c =
-    let f = c .before .before .before in
-    let a = f .before .before .before .before .before .before .args in
-    let o = f .before .before .o .given in
-    unset (o .0 .0) (a .slot) (a .p) (f .key-index .result) (a .signed .now) (a .keys .now) (f .key-index .ensures)
+    let f = at-told (c .before) in
+    let a = at-start f .args in
+    let o = f .before .o .given in
+    unset (o .0 .0) (a .slot) (a .p) (a .j) (a .signed .now) (a .keys .now)
     (sym (c .before .is-set .ensures) ∙ not-true (c .before .is-set .result) (c .if1 .taken))
-    ∙ ap (λ (o : Operation). keysAfter o (a .slot) (a .p) (a .signed .now) (a .keys .now)) (sym (o .1))
+    ∙ ap (λ (o : Operation). keysAfter o (a .j) (a .slot) (a .p) (a .signed .now) (a .keys .now)) (sym (o .1))
 
 returns-3 : tie.Need-returns-3
 returns-3 c =
     let t = c .before .before .before .before .before .before .before .before in
-    let f = t .before .before .before in
-    let a = f .before .before .before .before .before .before .args in
-    let o = f .before .before .o .given in
+    let f = at-told (t .before) in
+    let a = at-start f .args in
+    let o = f .before .o .given in
     let n = c .before .before .before .before .before .of in
-    put (o .0 .0) (a .slot) (a .p) (f .key-index .result) (a .signed .now) (a .keys .now) (f .key-index .ensures) (n .result)
+    put (o .0 .0) (a .slot) (a .p) (a .j) (a .signed .now) (a .keys .now) (n .result)
     (c .before .before .store-key .last .0) (there t) (n .ensures) (c .before .before .store-key .ensures)
-    ∙ ap (λ (o : Operation). keysAfter o (a .slot) (a .p) (a .signed .now) (a .keys .now)) (sym (o .1))
+    ∙ ap (λ (o : Operation). keysAfter o (a .j) (a .slot) (a .p) (a .signed .now) (a .keys .now)) (sym (o .1))
 
 pub apply-spec : {M : Type 1} → statement M
 apply-spec =
     tie.close
     (tie.spec
-    (λ c. search needs) returns (λ c κs. search needs) (λ c κs. search needs) (λ c. search needs) returns-2
+    (λ c. search needs) returns (λ c κs. search needs) (λ c. search needs) returns-2
     (λ c. omega (arith, inside c)) (λ c. omega (arith, inside c)) (λ c. omega (arith, inside c)) (λ c. search needs)
     (λ c. search needs) (λ c. omega (arith, inside (c .before))) (λ c κs. search needs)
     (λ c. search needs) (λ c. search needs) (λ c κs. search needs) (λ c. search needs) returns-3)

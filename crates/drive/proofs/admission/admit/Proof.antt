@@ -14,10 +14,10 @@ use Rattle.digest.specs.Hmac.{hmac}
 use Rattle.digest.specs.Keyed.{Keyed}
 use Rattle.rules.specs.declared.Entry.{Entry}
 use Rattle.rules.specs.declared.Request.{Request}
-use Rattle.rules.specs.Frame.{credentialSize, dataStart, fields, covered}
+use Rattle.rules.specs.Frame.{credentialSize, dataStart, fields, covered, keySize}
 use Rattle.rules.specs.Operations.{keyIn, credentialKey}
 use Rattle.rules.specs.Rows.{scopeRows, driveRows}
-use Rattle.keyring.specs.Keys.{keyCount, keySize, keysSize, keysIn, isSet, keyIndex}
+use Rattle.keyring.specs.Keys.{keyCount, keysSize, keysIn, isSet, keyIndex}
 use Rattle.keyring.specs.KeyLaws.{set-there, key-in-set, key-in-unset}
 use Rattle.placing.specs.Placing.{placeOption}
 use Rattle.drive.specs.Admission.{scopeFrom, AdmitRequires}
@@ -221,6 +221,7 @@ returns-4 c l w =
     let x = fields (a .frame .now) in
     let m = at-hash (at-signed (at-found t)) in
     granted-given w (prepared t) (a .reply .now) (row-of t l w ∙ e .if3 .left) (found-of (at-set m) l w)
+    (at-key (at-set m .before) .key-index .result) (at-key (at-set m .before) .key-index .ensures)
     (at-context (g .before) .grant-context .result) (at-context (g .before) .grant-context .ensures) _ _ (g .grant .ensures .0)
     (g .grant .ensures .1 (credentialKey (keysIn (a .keys .now)) x) (x .credential ++ x .request) (keyed-of m l w))
 

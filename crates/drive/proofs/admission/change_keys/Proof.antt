@@ -13,7 +13,7 @@ returns c =
     let a = c .before .before .before .before .before .before .before .before .args in
     let long = c .before .before .before .before .before .before .before .before .pre in
     c .before .before .apply .ensures
-    ∙ ap (λ (y : List ℕ). keysAfter (a .request .operation) (a .c .slot) (a .c .partition) y (a .keys .now)) (request-and-data (a .frame .now) long)
+    ∙ ap (λ (y : List ℕ). keysAfter (a .request .operation) (a .j) (a .c .slot) (a .c .partition) y (a .keys .now)) (request-and-data (a .frame .now) long)
 
 pub change-keys-spec : {M : Type 1} → statement M
 change-keys-spec =
