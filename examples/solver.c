@@ -4,7 +4,7 @@
  *   solver shape CREDENTIAL KEY COUNT < reply      prints the shape that the reply shows, in hexadecimal, or the row that says no
  *
  * CREDENTIAL is a file of 36 bytes and KEY one of 32, both from the file manager; COUNT numbers this solver's frames. The frame
- * goes to the drive by whatever wire there is. Build: cc -Icrates/solver/include examples/solver.c target/staticlib/libsolver.a
+ * goes to the drive by whatever wire there is. Build: cc -Iinclude examples/solver.c target/staticlib/libsolver.a
  */
 #include "sievelast.h"
 #include <inttypes.h>

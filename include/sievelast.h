@@ -1,8 +1,10 @@
-/* Sievelast's client end for C: build a frame, check a reply. Link libsolver.a (`rt staticlib solver`); nothing else is needed.
+/* Sievelast's client end for C: build a frame, check a reply. Link libsievelast.a, which is `rt staticlib solver`'s libsolver.a;
+ * nothing else is needed. sievelast_records.h has lengths, rows and the records.
  *
  * Every argument is a pointer and a length in bytes. What is const is only read. Nothing is kept after a call returns, nothing
  * is allocated, and no call fails in any other way than by its row. A length of 0 allows any pointer, NULL too. `space` must not
- * overlap any other argument; the const arguments may overlap each other.
+ * overlap any other argument; the const arguments may overlap each other. Bytes may have any alignment. Calls whose spaces are
+ * apart may run in several threads at once. A call needs under STACKCLIENT bytes of stack.
  *
  * Rows (why a call said no); 0 means granted:
  *   26  the key is not 32 bytes
@@ -14,8 +16,7 @@
 #ifndef SIEVELAST_H
 #define SIEVELAST_H
 
-#include <stddef.h>
-#include <stdint.h>
+#include "sievelast_records.h"
 
 #ifdef __cplusplus
 extern "C" {

@@ -1,0 +1,215 @@
+/* What both ends of Sievelast share: version, lengths, rows, operations, levels, slots, and the two records of a frame as C
+ * structs with their encoders and decoders. sievelast.h (client end) and sievelast_store.h (drive) include it.
+ *
+ * For x86-64 with the System V calling convention (Linux): the archives are compiled for no other. C99 and later, C++11 and
+ * later. No call keeps state, allocates, or touches errno, locale, files or signals; calls that share nothing writable may run in
+ * as many threads as there are.
+ */
+#ifndef SIEVELAST_RECORDS_H
+#define SIEVELAST_RECORDS_H
+
+#include <stddef.h>
+#include <stdint.h>
+
+#ifdef __cplusplus
+extern "C" {
+#endif
+
+/* ---- version: of these headers and the archives installed with them */
+#define SIEVELAST_VERSION_MAJOR 1
+#define SIEVELAST_VERSION_MINOR 0
+#define SIEVELAST_VERSION_PATCH 0
+#define SIEVELAST_VERSION "1.0.0"
+
+/* ---- lengths, in bytes */
+#define SIEVELAST_CREDENTIAL_BYTES 36
+#define SIEVELAST_REQUEST_BYTES 28
+#define SIEVELAST_DIGEST_BYTES 32
+#define SIEVELAST_KEY_BYTES 32
+#define SIEVELAST_SEED_BYTES 16          /* the data of operation 7 */
+#define SIEVELAST_REPLY_HEAD_BYTES 8     /* a reply before its result */
+#define SIEVELAST_LOOK_BYTES 8           /* a look's result: size and version */
+#define SIEVELAST_NEW_VERSION_BYTES 4    /* the result of a raise or a create */
+#define SIEVELAST_LEAST_FRAME_BYTES 96   /* a frame without data */
+#define SIEVELAST_MOST_DATA_BYTES 1048576
+#define SIEVELAST_MOST_FRAME_BYTES (SIEVELAST_LEAST_FRAME_BYTES + SIEVELAST_MOST_DATA_BYTES)
+#define SIEVELAST_MOST_MEDIUM_BYTES 16777216
+#define SIEVELAST_MOST_RESULT_BYTES (SIEVELAST_MOST_MEDIUM_BYTES / 4) /* an object is in its quarter */
+#define SIEVELAST_MOST_REPLY_BYTES (SIEVELAST_REPLY_HEAD_BYTES + SIEVELAST_MOST_RESULT_BYTES + SIEVELAST_DIGEST_BYTES)
+
+/* ---- other limits */
+#define SIEVELAST_PARTITIONS 4
+#define SIEVELAST_MOST_OBJECTS 16        /* of a partition */
+#define SIEVELAST_MEMORIES 5             /* replay memories: one for each partition, a fifth for slots 3 and 4 */
+#define SIEVELAST_MOST_ENTRIES 64        /* of a replay memory */
+#define SIEVELAST_TIME_WINDOW 5000       /* how far a request's time may lie from the drive's mark, in milliseconds */
+
+/* ---- operations, levels, slots, rights */
+enum sievelast_operation {
+    SIEVELAST_READ = 1,   /* a: offset, b: length */
+    SIEVELAST_WRITE = 2,  /* a: offset, b: length, which is data_len */
+    SIEVELAST_LOOK = 3,   /* size and version */
+    SIEVELAST_RAISE = 4,  /* the object's, or for object 0 the partition's, next version */
+    SIEVELAST_CREATE = 5, /* on object 0; a: the new object's number, b: its size */
+    SIEVELAST_DELETE = 6,
+    SIEVELAST_SET_KEY = 7 /* slot 4: the drive key; slot 3: partition a's key; slot 2: working key a */
+};
+
+enum sievelast_level {
+    SIEVELAST_LEVEL_RECORDS = 0, /* the digest covers credential and request */
+    SIEVELAST_LEVEL_DATA = 1,    /* and the data */
+    SIEVELAST_LEVEL_REPLY = 2    /* and the reply has a digest too */
+};
+
+enum sievelast_slot {
+    SIEVELAST_SLOT_BLACK = 0, /* working key 0 */
+    SIEVELAST_SLOT_GOLD = 1,  /* working key 1 */
+    SIEVELAST_SLOT_PARTITION = 2,
+    SIEVELAST_SLOT_DRIVE = 3,
+    SIEVELAST_SLOT_MASTER = 4
+};
+
+#define SIEVELAST_RIGHT(operation) ((uint16_t)(1u << ((operation) - 1))) /* the right that an operation needs */
+#define SIEVELAST_EVERY_RIGHT ((uint16_t)0x7f)
+
+/* ---- rows: why a call said no; 0 means granted. The lowest row that applies is the one returned. */
+enum sievelast_row {
+    SIEVELAST_GRANTED = 0,
+    SIEVELAST_ROW_RECORD_UNSOUND = 1,
+    SIEVELAST_ROW_FRAME_SHORT = 2,
+    SIEVELAST_ROW_MARKS = 3,
+    SIEVELAST_ROW_FIELD = 4,
+    SIEVELAST_ROW_LENGTHS = 5,
+    SIEVELAST_ROW_OPERATION_MISFITS = 6,
+    SIEVELAST_ROW_LEVEL_LOW = 7,
+    SIEVELAST_ROW_KEY_UNSET = 8,
+    SIEVELAST_ROW_DIGEST = 9,
+    SIEVELAST_ROW_EXPIRED = 10,
+    SIEVELAST_ROW_UNTIMELY = 11,
+    SIEVELAST_ROW_REPLAYED = 12,
+    SIEVELAST_ROW_RIGHT_MISSING = 13,
+    SIEVELAST_ROW_NO_OBJECT = 14,
+    SIEVELAST_ROW_VERSION = 15,
+    SIEVELAST_ROW_RANGE = 16,
+    SIEVELAST_ROW_PAST_SIZE = 17,
+    SIEVELAST_ROW_NUMBER_TAKEN = 18,
+    SIEVELAST_ROW_OBJECTS_FULL = 19,
+    SIEVELAST_ROW_NO_GAP = 20,
+    SIEVELAST_ROW_LAST_VERSION = 21,
+    SIEVELAST_ROW_MEMORY_FULL = 22,
+    SIEVELAST_ROW_REPLY_SPACE = 23,
+    SIEVELAST_ROW_MEDIUM_LARGE = 24,
+    SIEVELAST_ROW_FIRST_VERSION = 25,
+    SIEVELAST_ROW_KEY_LENGTH = 26,
+    SIEVELAST_ROW_DIGEST_INPUT = 27,
+    SIEVELAST_ROW_RECORDS = 28,
+    SIEVELAST_ROW_SPACE = 29,
+    SIEVELAST_ROW_REPLY = 30
+};
+
+#define SIEVELAST_LAST_ROW 30
+
+/* A row's meaning in one line, without its number and without a full stop; "no such row" for any other number. */
+static inline const char *sievelast_row_text(uint64_t row)
+{
+    static const char *const text[SIEVELAST_LAST_ROW + 1] = {
+        "granted",
+        "the drive record is not sound, or the medium is not the one it was formatted with",
+        "the frame is under 96 bytes",
+        "the frame's marks are not those of a credential and a request",
+        "a field of the frame is outside its values",
+        "the data length does not fit the operation, or the frame is not as long as its parts",
+        "the operation does not fit the slot, the object, the version or its arguments",
+        "the level is under the credential's least, or 0 for setting a key",
+        "the key in the credential's slot was never set",
+        "the frame's digest differs",
+        "the credential has expired",
+        "the request's time is too far from the drive's clock",
+        "the frame was granted before: its nonce is in the replay memory",
+        "the credential has not the right that the operation needs",
+        "the object does not exist in the partition",
+        "the credential's version is not the present one",
+        "the bytes asked for are outside the credential's range",
+        "the bytes asked for end past the object",
+        "an object of this number exists",
+        "the partition has 16 objects",
+        "no gap of the partition is large enough",
+        "the partition has given its last version",
+        "the replay memory is full",
+        "the reply space is too short",
+        "the medium is over 16,777,216 bytes",
+        "the first version is 0",
+        "a key is not 32 bytes",
+        "the key or message of a digest is over 16,777,216 bytes",
+        "a record is not as long as it must be, or its fields are none that a drive would take",
+        "the space is too short",
+        "the reply is not the one that the request calls for",
+    };
+    return row <= SIEVELAST_LAST_ROW ? text[row] : "no such row";
+}
+
+/* ---- the records of a frame, without their marks and the credential's zero byte, which the encoders write */
+struct sievelast_credential {
+    uint64_t expiry;   /* milliseconds */
+    uint32_t object;   /* 0 means the partition */
+    uint32_t version;
+    uint32_t first;    /* the range of bytes allowed, from first .. */
+    uint32_t end;      /* .. up to end, exclusive */
+    uint32_t holder;   /* the client's number */
+    uint16_t rights;   /* bit k - 1 for operation k: SIEVELAST_RIGHT */
+    uint8_t partition; /* 0 to 3; 0 for slots 3 and 4 */
+    uint8_t slot;      /* enum sievelast_slot */
+    uint8_t least;     /* the least level that a frame must have */
+};
+
+struct sievelast_request {
+    uint64_t time;     /* milliseconds */
+    uint32_t count;    /* numbers the holder's frames of one millisecond */
+    uint32_t a;
+    uint32_t b;
+    uint32_t data_len;
+    uint8_t operation; /* enum sievelast_operation */
+    uint8_t level;     /* enum sievelast_level */
+};
+
+/* A record as it was read. Row 0: encoding the fields gives its bytes again. Row 28: it has another length, another mark, or a
+ * zero byte that is not 0; then the fields are zeros. */
+struct sievelast_credential_decoded {
+    uint64_t row;
+    struct sievelast_credential fields;
+};
+
+struct sievelast_request_decoded {
+    uint64_t row;
+    struct sievelast_request fields;
+};
+
+/* Encoders write the record's 36 or 28 bytes at the start of space and return 0; row 29 where space is too short, which then
+ * keeps every byte. Any fields are written: whether a drive takes them is for the issuer, the builder and the gate to say. They
+ * are in the client end's archive. */
+uint64_t sievelast_credential_encode(struct sievelast_credential fields, uint8_t *space, size_t space_len);
+struct sievelast_credential_decoded sievelast_credential_decode(const uint8_t *record, size_t record_len);
+uint64_t sievelast_request_encode(struct sievelast_request fields, uint8_t *space, size_t space_len);
+struct sievelast_request_decoded sievelast_request_decode(const uint8_t *record, size_t record_len);
+
+/* ---- results, as the reply check shows them */
+struct sievelast_looked {
+    uint64_t row;     /* 0, or 28: the result is not 8 bytes long */
+    uint32_t size;    /* the object's, or for object 0 a quarter's; 0 when refused */
+    uint32_t version; /* 0 when refused */
+};
+
+struct sievelast_versioned {
+    uint64_t row;     /* 0, or 28: the result is not 4 bytes long */
+    uint64_t version; /* the new version; 0 when refused */
+};
+
+/* A look's result, and that of a raise or a create. */
+struct sievelast_looked sievelast_look_decode(const uint8_t *result, size_t result_len);
+struct sievelast_versioned sievelast_version_decode(const uint8_t *result, size_t result_len);
+
+#ifdef __cplusplus
+}
+#endif
+
+#endif
