@@ -1,10 +1,5 @@
-/* Sievelast's client end for C: build a frame, check a reply. Link libsievelast.a, which is `rt staticlib solver`'s libsolver.a;
- * nothing else is needed. sievelast_records.h has lengths, rows and the records.
- *
- * Every argument is a pointer and a length in bytes. What is const is only read. Nothing is kept after a call returns, nothing
- * is allocated, and no call fails in any other way than by its row. A length of 0 allows any pointer, NULL too. `space` must not
- * overlap any other argument; the const arguments may overlap each other. Bytes may have any alignment. Calls whose spaces are
- * apart may run in several threads at once. A call needs under STACKCLIENT bytes of stack.
+/* Sievelast's client end for C: build a frame, check a reply. Link libsievelast.a, which is `rt staticlib solver`'s libsolver.a.
+ * sievelast_records.h has lengths, rows and the records, and says what holds for every call. An example: examples/solver.c.
  *
  * Rows (why a call said no); 0 means granted:
  *   26  the key is not 32 bytes
@@ -35,7 +30,7 @@ struct sievelast_checked {
 
 /* Writes a frame at the start of space: the 36 bytes of the credential, the 28 bytes of the request, the data, and 32 bytes of
  * digest under the credential key (32 bytes, from whoever issued the credential). Bytes of space after the frame keep their
- * values; a refused call writes none. */
+ * values; a refused call writes none. A space of SIEVELAST_LEAST_FRAME_BYTES + data_len is enough. */
 struct sievelast_built sievelast_build(const uint8_t *credential, size_t credential_len, const uint8_t *request,
                                        size_t request_len, const uint8_t *data, size_t data_len, const uint8_t *key,
                                        size_t key_len, uint8_t *space, size_t space_len);

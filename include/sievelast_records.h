@@ -1,9 +1,14 @@
 /* What both ends of Sievelast share: version, lengths, rows, operations, levels, slots, and the two records of a frame as C
  * structs with their encoders and decoders. sievelast.h (client end) and sievelast_store.h (drive) include it.
  *
- * For x86-64 with the System V calling convention (Linux): the archives are compiled for no other. C99 and later, C++11 and
- * later. No call keeps state, allocates, or touches errno, locale, files or signals; calls that share nothing writable may run in
- * as many threads as there are.
+ * For C99, C++11 and later, on x86-64 with the System V calling convention (Linux): the archives are compiled for nothing else,
+ * and need no library but C's memcpy and memset.
+ *
+ * For every call: arguments are pointers and lengths in bytes. A length of 0 allows any pointer, NULL too; bytes may have any
+ * alignment. What is const is only read, and const arguments may overlap each other; what is not const overlaps no other argument.
+ * Nothing is kept after a call returns, nothing is allocated, no errno, locale, file or signal is touched, and no call fails in any
+ * other way than by its row. Calls that share nothing writable may run in as many threads as there are. A call needs under
+ * SIEVELAST_STACK_BYTES of stack.
  */
 #ifndef SIEVELAST_RECORDS_H
 #define SIEVELAST_RECORDS_H
@@ -11,48 +16,56 @@
 #include <stddef.h>
 #include <stdint.h>
 
+#if !defined(__x86_64__) || !defined(__LP64__)
+#error "Sievelast's archives are for x86-64 with 64-bit pointers and the System V calling convention"
+#endif
+
 #ifdef __cplusplus
 extern "C" {
 #endif
 
-/* ---- version: of these headers and the archives installed with them */
+/* ---- version: of these headers and the archives installed with them; SIEVELAST_VERSION is the three as text, with dots */
 #define SIEVELAST_VERSION_MAJOR 1
 #define SIEVELAST_VERSION_MINOR 0
 #define SIEVELAST_VERSION_PATCH 0
-#define SIEVELAST_VERSION "1.0.0"
+#define SIEVELAST_TEXT_(x) #x
+#define SIEVELAST_DOTTED_(x, y, z) SIEVELAST_TEXT_(x) "." SIEVELAST_TEXT_(y) "." SIEVELAST_TEXT_(z)
+#define SIEVELAST_VERSION SIEVELAST_DOTTED_(SIEVELAST_VERSION_MAJOR, SIEVELAST_VERSION_MINOR, SIEVELAST_VERSION_PATCH)
 
 /* ---- lengths, in bytes */
 #define SIEVELAST_CREDENTIAL_BYTES 36
 #define SIEVELAST_REQUEST_BYTES 28
 #define SIEVELAST_DIGEST_BYTES 32
 #define SIEVELAST_KEY_BYTES 32
-#define SIEVELAST_SEED_BYTES 16          /* the data of operation 7 */
-#define SIEVELAST_REPLY_HEAD_BYTES 8     /* a reply before its result */
-#define SIEVELAST_LOOK_BYTES 8           /* a look's result: size and version */
-#define SIEVELAST_NEW_VERSION_BYTES 4    /* the result of a raise or a create */
-#define SIEVELAST_LEAST_FRAME_BYTES 96   /* a frame without data */
+#define SIEVELAST_SEED_BYTES 16             /* the data of operation 7 */
+#define SIEVELAST_REPLY_HEAD_BYTES 8        /* a reply before its result */
+#define SIEVELAST_LOOK_BYTES 8              /* a look's result: size and version */
+#define SIEVELAST_NEW_VERSION_BYTES 4       /* the result of a raise or a create */
+#define SIEVELAST_LEAST_FRAME_BYTES 96      /* a frame without data: credential, request, digest */
 #define SIEVELAST_MOST_DATA_BYTES 1048576
 #define SIEVELAST_MOST_FRAME_BYTES (SIEVELAST_LEAST_FRAME_BYTES + SIEVELAST_MOST_DATA_BYTES)
 #define SIEVELAST_MOST_MEDIUM_BYTES 16777216
-#define SIEVELAST_MOST_RESULT_BYTES (SIEVELAST_MOST_MEDIUM_BYTES / 4) /* an object is in its quarter */
+#define SIEVELAST_MOST_RESULT_BYTES 4194304 /* a quarter of the largest medium: no object is larger */
 #define SIEVELAST_MOST_REPLY_BYTES (SIEVELAST_REPLY_HEAD_BYTES + SIEVELAST_MOST_RESULT_BYTES + SIEVELAST_DIGEST_BYTES)
+#define SIEVELAST_MOST_HMAC_BYTES 16777216  /* a key's or a message's, for HMAC */
+#define SIEVELAST_STACK_BYTES 16384         /* what a call may need of its thread's stack */
 
 /* ---- other limits */
 #define SIEVELAST_PARTITIONS 4
-#define SIEVELAST_MOST_OBJECTS 16        /* of a partition */
-#define SIEVELAST_MEMORIES 5             /* replay memories: one for each partition, a fifth for slots 3 and 4 */
-#define SIEVELAST_MOST_ENTRIES 64        /* of a replay memory */
-#define SIEVELAST_TIME_WINDOW 5000       /* how far a request's time may lie from the drive's mark, in milliseconds */
+#define SIEVELAST_MOST_OBJECTS 16     /* of a partition */
+#define SIEVELAST_MEMORIES 5          /* replay memories: one for each partition, a fifth for slots 3 and 4 */
+#define SIEVELAST_MOST_ENTRIES 64     /* of a replay memory */
+#define SIEVELAST_TIME_WINDOW 5000    /* how far a request's time may lie from the drive's mark, in milliseconds */
 
 /* ---- operations, levels, slots, rights */
 enum sievelast_operation {
-    SIEVELAST_READ = 1,   /* a: offset, b: length */
-    SIEVELAST_WRITE = 2,  /* a: offset, b: length, which is data_len */
-    SIEVELAST_LOOK = 3,   /* size and version */
-    SIEVELAST_RAISE = 4,  /* the object's, or for object 0 the partition's, next version */
-    SIEVELAST_CREATE = 5, /* on object 0; a: the new object's number, b: its size */
-    SIEVELAST_DELETE = 6,
-    SIEVELAST_SET_KEY = 7 /* slot 4: the drive key; slot 3: partition a's key; slot 2: working key a */
+    SIEVELAST_READ = 1,   /* b bytes of the object from offset a on */
+    SIEVELAST_WRITE = 2,  /* the data, b bytes, into the object from offset a on */
+    SIEVELAST_LOOK = 3,   /* the object's size and version, or for object 0 a quarter's size and the partition's version */
+    SIEVELAST_RAISE = 4,  /* the next version, for the object, or for object 0 the partition */
+    SIEVELAST_CREATE = 5, /* on object 0: object a, of b bytes */
+    SIEVELAST_DELETE = 6, /* the object */
+    SIEVELAST_SET_KEY = 7 /* under slot 4 the drive key, 3 partition a's key, 2 working key a; the data is a seed */
 };
 
 enum sievelast_level {
@@ -64,15 +77,16 @@ enum sievelast_level {
 enum sievelast_slot {
     SIEVELAST_SLOT_BLACK = 0, /* working key 0 */
     SIEVELAST_SLOT_GOLD = 1,  /* working key 1 */
-    SIEVELAST_SLOT_PARTITION = 2,
-    SIEVELAST_SLOT_DRIVE = 3,
-    SIEVELAST_SLOT_MASTER = 4
+    SIEVELAST_SLOT_PARTITION = 2, /* the partition key */
+    SIEVELAST_SLOT_DRIVE = 3,     /* the drive key */
+    SIEVELAST_SLOT_MASTER = 4     /* the master key */
 };
 
 #define SIEVELAST_RIGHT(operation) ((uint16_t)(1u << ((operation) - 1))) /* the right that an operation needs */
 #define SIEVELAST_EVERY_RIGHT ((uint16_t)0x7f)
 
-/* ---- rows: why a call said no; 0 means granted. The lowest row that applies is the one returned. */
+/* ---- rows: why a call said no; 0 means granted. The lowest row that applies is the one returned. The gate answers rows 1 to
+ * 23, format 24 to 26, HMAC 27, issuer, builder and reply check 26 and 28 to 30. */
 enum sievelast_row {
     SIEVELAST_GRANTED = 0,
     SIEVELAST_ROW_RECORD_UNSOUND = 1,
@@ -114,9 +128,9 @@ static inline const char *sievelast_row_text(uint64_t row)
 {
     static const char *const text[SIEVELAST_LAST_ROW + 1] = {
         "granted",
-        "the drive record is not sound, or the medium is not the one it was formatted with",
+        "the drive record is not sound, or the medium is not as long as it says",
         "the frame is under 96 bytes",
-        "the frame's marks are not those of a credential and a request",
+        "the frame's credential or request does not start with its mark",
         "a field of the frame is outside its values",
         "the data length does not fit the operation, or the frame is not as long as its parts",
         "the operation does not fit the slot, the object, the version or its arguments",
@@ -124,25 +138,25 @@ static inline const char *sievelast_row_text(uint64_t row)
         "the key in the credential's slot was never set",
         "the frame's digest differs",
         "the credential has expired",
-        "the request's time is too far from the drive's clock",
-        "the frame was granted before: its nonce is in the replay memory",
+        "the request's time is over 5,000 ms from the drive's mark",
+        "a frame with this nonce was granted before",
         "the credential has not the right that the operation needs",
         "the object does not exist in the partition",
         "the credential's version is not the present one",
-        "the bytes asked for are outside the credential's range",
-        "the bytes asked for end past the object",
-        "an object of this number exists",
+        "the bytes to read or write are not within the credential's range",
+        "the bytes to read or write end past the object",
+        "the new object's number is taken",
         "the partition has 16 objects",
-        "no gap of the partition is large enough",
-        "the partition has given its last version",
-        "the replay memory is full",
+        "no gap of the partition has that many bytes",
+        "the partition has given version 4,294,967,295",
+        "the replay memory has 64 entries",
         "the reply space is too short",
         "the medium is over 16,777,216 bytes",
         "the first version is 0",
         "a key is not 32 bytes",
         "the key or message of a digest is over 16,777,216 bytes",
-        "a record is not as long as it must be, or its fields are none that a drive would take",
-        "the space is too short",
+        "a record is wrong: its length, its mark, a field, or the length of data or result that it calls for",
+        "the space lent is too short",
         "the reply is not the one that the request calls for",
     };
     return row <= SIEVELAST_LAST_ROW ? text[row] : "no such row";
@@ -150,24 +164,25 @@ static inline const char *sievelast_row_text(uint64_t row)
 
 /* ---- the records of a frame, without their marks and the credential's zero byte, which the encoders write */
 struct sievelast_credential {
-    uint64_t expiry;   /* milliseconds */
+    uint64_t expiry;   /* milliseconds; the last at which the credential opens anything */
     uint32_t object;   /* 0 means the partition */
-    uint32_t version;
-    uint32_t first;    /* the range of bytes allowed, from first .. */
+    uint32_t version;  /* the object's or partition's present one; 0 for operation 7 */
+    uint32_t first;    /* the range of the object's bytes that may be read and written, from first .. */
     uint32_t end;      /* .. up to end, exclusive */
     uint32_t holder;   /* the client's number */
     uint16_t rights;   /* bit k - 1 for operation k: SIEVELAST_RIGHT */
     uint8_t partition; /* 0 to 3; 0 for slots 3 and 4 */
-    uint8_t slot;      /* enum sievelast_slot */
-    uint8_t least;     /* the least level that a frame must have */
+    uint8_t slot;      /* enum sievelast_slot: which key the credential's own is made from */
+    uint8_t least;     /* enum sievelast_level: the least that a frame may have */
 };
 
+/* A frame's nonce is slot, holder, time and count. No replay memory grants one twice. */
 struct sievelast_request {
-    uint64_t time;     /* milliseconds */
-    uint32_t count;    /* numbers the holder's frames of one millisecond */
-    uint32_t a;
-    uint32_t b;
-    uint32_t data_len;
+    uint64_t time;     /* milliseconds, by the drive's clock */
+    uint32_t count;
+    uint32_t a;        /* as enum sievelast_operation says; 0 where it says nothing */
+    uint32_t b;        /* the same */
+    uint32_t data_len; /* b for a write, 16 for a new key, else 0 */
     uint8_t operation; /* enum sievelast_operation */
     uint8_t level;     /* enum sievelast_level */
 };
@@ -184,9 +199,9 @@ struct sievelast_request_decoded {
     struct sievelast_request fields;
 };
 
-/* Encoders write the record's 36 or 28 bytes at the start of space and return 0; row 29 where space is too short, which then
- * keeps every byte. Any fields are written: whether a drive takes them is for the issuer, the builder and the gate to say. They
- * are in the client end's archive. */
+/* The encoders write a record's 36 or 28 bytes at the start of space and return 0; bytes after them keep their values. Where space
+ * is too short they return row 29 and write nothing. Any fields are written: whether a drive takes them is for the issuer, the
+ * builder and the gate to say. Encoders and decoders are in libsievelast.a. */
 uint64_t sievelast_credential_encode(struct sievelast_credential fields, uint8_t *space, size_t space_len);
 struct sievelast_credential_decoded sievelast_credential_decode(const uint8_t *record, size_t record_len);
 uint64_t sievelast_request_encode(struct sievelast_request fields, uint8_t *space, size_t space_len);

@@ -1,21 +1,17 @@
 /* Sievelast's drive for C: format a medium, put frames to the gate, issue credentials. Link libsievelast_store.a, which is
- * `rt staticlib store`'s libstore.a; nothing else is needed. Both archives may be linked into one program.
- * sievelast_records.h has lengths, rows and the records.
+ * `rt staticlib store`'s libstore.a; it may stand in one program with libsievelast.a. sievelast_records.h has lengths, rows and
+ * the records, and says what holds for every call. An example: examples/store.c.
  *
  * Who owns what. The caller lends everything and keeps it: the record (struct sievelast_drive) and the medium (M bytes, fixed at
- * format). Nothing is kept after a call returns, nothing is allocated, and no call fails in any other way than by its row. Nothing
- * is asked of what a record holds: row 1 refuses one that is not sound and leaves every byte of it. But its bytes are the drive's
- * secrets and its memory of frames: who can write them is the drive, and who can read them has its keys.
+ * format). Nothing is asked of what a record holds: row 1 refuses one that is not sound and leaves every byte of it. But its bytes
+ * are the drive's secrets and its memory of frames: who can write them is the drive, and who can read them has its keys.
  *
- * Arguments are pointers and lengths in bytes. What is const is only read. A length of 0 allows any pointer, NULL too. The record
- * must be aligned as C aligns the struct (8 bytes), all else may lie anywhere, in a mapped file too. What is not const must not
- * overlap any other argument; the const arguments may overlap each other.
+ * The record must be aligned as C aligns the struct (8 bytes); all else may lie anywhere, in a mapped file too.
  *
- * One call at a time works on a record and its medium; calls on different records may run in different threads. A call needs
- * under STACKSTORE bytes of stack.
+ * One call at a time works on a record and its medium; calls on different records may run in different threads.
  *
  * A call is whole only once it has returned. A program stopped within a grant leaves medium and record as far as the call came:
- * some of the medium's bytes, the keys and the table may be new while the nonce is not yet entered. Until change 14 of the
+ * some of the medium's bytes, the keys and the tables may be new while the nonce is not yet entered. Until change 14 of the
  * requests lands, the caller must keep the frame and a copy of the record from before the call to do it again: examples/store.c
  * shows how. A refused format leaves the medium and overwrites the record.
  */
@@ -29,9 +25,10 @@ extern "C" {
 #endif
 
 /* ---- the record */
-#define SIEVELAST_RECORD_KEYS 462    /* 14 keys of 32 bytes and a byte for each that says whether it was set */
-#define SIEVELAST_RECORD_TABLES 268  /* 4 tables of 67 numbers: version, last version, count, and 16 each of number, version, size, start */
-#define SIEVELAST_RECORD_PLACES 320  /* places of the replay memories: 5 of 64 */
+#define SIEVELAST_RECORD_KEYS 462   /* bytes: 14 keys of 32, and for each one that says whether it was set */
+#define SIEVELAST_RECORD_TABLES 268 /* numbers: for each partition version, last version given, count of objects, and 16 each of
+                                       number, version, size, start */
+#define SIEVELAST_RECORD_PLACES 320 /* entries: 64 for each replay memory */
 
 /* The drive's record. First what battery memory would keep, then what a drive may lose. A caller may read `size` and `highwater`
  * and copy a record whole while no call works on it; the rest is the drive's. Its form belongs to SIEVELAST_VERSION: whoever keeps
@@ -64,7 +61,8 @@ struct sievelast_digest {
     uint8_t bytes[SIEVELAST_DIGEST_BYTES]; /* zeros when refused */
 };
 
-/* Writes the 36 bytes of a credential at the start of space and gives its key, from the key of its slot (32 bytes). */
+/* Writes the 36 bytes of a credential at the start of space and gives its key, from the key of its slot (32 bytes). Row 28: a
+ * field is none that a drive takes. Bytes of space after the credential keep their values; a refused call writes none. */
 struct sievelast_issued sievelast_issue(struct sievelast_credential fields, const uint8_t *key, size_t key_len,
                                         uint8_t *space, size_t space_len);
 
@@ -78,7 +76,7 @@ uint64_t sievelast_format_parts(uint64_t *size, uint64_t *highwater, uint8_t key
                                 uint8_t slots[SIEVELAST_RECORD_PLACES], uint32_t holders[SIEVELAST_RECORD_PLACES],
                                 uint64_t times[SIEVELAST_RECORD_PLACES], uint32_t counts[SIEVELAST_RECORD_PLACES],
                                 uint8_t *medium, size_t medium_len, uint32_t first, const uint8_t *master, size_t master_len,
-                                const uint8_t *key, size_t key_len);
+                                const uint8_t *drive_key, size_t drive_key_len);
 
 struct sievelast_answered sievelast_gate_parts(uint64_t size, uint64_t *highwater, uint8_t keys[SIEVELAST_RECORD_KEYS],
                                                uint32_t tables[SIEVELAST_RECORD_TABLES], uint64_t lengths[SIEVELAST_MEMORIES],
@@ -94,11 +92,12 @@ struct sievelast_answered sievelast_gate_parts(uint64_t size, uint64_t *highwate
  * 0), master and drive key have 32 bytes each. Returns 0, or row 24, 25 or 26: then the medium keeps every byte, and the record
  * becomes that of a drive that has nothing. Whatever record was there is gone either way. */
 static inline uint64_t sievelast_format(struct sievelast_drive *drive, uint8_t *medium, size_t medium_len, uint32_t first,
-                                        const uint8_t *master, size_t master_len, const uint8_t *key, size_t key_len)
+                                        const uint8_t *master, size_t master_len, const uint8_t *drive_key,
+                                        size_t drive_key_len)
 {
     return sievelast_format_parts(&drive->size, &drive->highwater, drive->keys, drive->tables, drive->lengths, drive->slots,
                                   drive->holders, drive->times, drive->counts, medium, medium_len, first, master, master_len,
-                                  key, key_len);
+                                  drive_key, drive_key_len);
 }
 
 /* Puts a frame to the gate at a clock reading in milliseconds. A grant writes the reply at the start of reply; bytes after it

@@ -1,20 +1,7 @@
 /* The exported builder and reply check: grants against an independent HMAC, every refusal, and the edges of the C boundary. */
+#include "expect.h"
 #include "hmac.h"
 #include "sievelast.h"
-#include <stdio.h>
-
-static int failures;
-static int checks;
-
-static void expect(int ok, const char *what, int line)
-{
-    checks++;
-    if (!ok) {
-        failures++;
-        printf("line %d: %s\n", line, what);
-    }
-}
-#define EXPECT(ok) expect((ok) != 0, #ok, __LINE__)
 
 static void put(uint8_t *at, int width, uint64_t x)
 {
@@ -225,6 +212,5 @@ int main(void)
     builds();
     replies();
     edges();
-    printf("solver: %d checks, %d failures\n", checks, failures);
-    return failures != 0;
+    return expected("solver");
 }
