@@ -1,20 +1,34 @@
-/* Facts that a test expects, counted; one that does not hold is printed with its line. */
+/* Facts that a test expects, counted. One that does not hold is printed with its line, and what the test says of the case; of many
+ * the first PRINTED. */
 #ifndef TESTS_EXPECT_H
 #define TESTS_EXPECT_H
 #include <stdio.h>
 
+enum { PRINTED = 20 };
+
 static int failures;
 static int checks;
 
-static inline void expect(int ok, const char *what, int line)
+/* Does it hold? If not, and if it is to be printed, there is more to say of it. */
+static inline int expect(int ok, const char *what, int line)
 {
     checks++;
-    if (!ok) {
-        failures++;
-        printf("line %d: %s\n", line, what);
-    }
+    failures += !ok;
+    if (ok || failures > PRINTED)
+        return 1;
+    printf("line %d: %s\n", line, what);
+    return 0;
 }
-#define EXPECT(ok) expect((ok) != 0, #ok, __LINE__)
+#define EXPECT(ok) (void)expect((ok) != 0, #ok, __LINE__)
+
+/* The same with more to say, as printf does. */
+#define EXPECT_IN(ok, ...)                         \
+    do {                                           \
+        if (!expect((ok) != 0, #ok, __LINE__)) {   \
+            printf("    " __VA_ARGS__);            \
+            printf("\n");                          \
+        }                                          \
+    } while (0)
 
 /* The test's last line, and main's status. */
 static inline int expected(const char *test)

@@ -134,13 +134,13 @@ static void row_texts(void)
     EXPECT(!strcmp(sievelast_row_text(SIEVELAST_GRANTED), rows[0].words) && !strcmp(none, "no such row"));
     for (int i = 0; i <= SIEVELAST_LAST_ROW; i++) {
         const char *text = sievelast_row_text((uint64_t)i);
-        EXPECT(rows[i].row == i && !strpbrk(text, "\n.") && strcmp(text, none));
-        for (int j = 1; j <= SIEVELAST_LAST_ROW; j++) {
-            int right = (strstr(text, rows[j].words) != NULL) == (i == j);
-            if (!right)
-                printf("row %d is '%s'; row %d must have '%s', and no other\n", i, text, j, rows[j].words);
-            EXPECT(right);
-        }
+        EXPECT_IN(text != NULL, "row %d has no text", i);
+        if (!text)
+            continue;
+        EXPECT_IN(rows[i].row == i && !strpbrk(text, "\n.") && strcmp(text, none), "row %d is '%s'", i, text);
+        for (int j = 1; j <= SIEVELAST_LAST_ROW; j++)
+            EXPECT_IN((strstr(text, rows[j].words) != NULL) == (i == j), "row %d is '%s'; row %d must have '%s', and no other", i,
+                      text, j, rows[j].words);
     }
     EXPECT(sievelast_row_text((uint64_t)1 << 32) == none && sievelast_row_text(UINT64_MAX) == none);
 }
@@ -265,19 +265,17 @@ static const struct record records[] = {
      request_decoded, request_refused},
 };
 
-/* Case i at an address, with some bytes behind: written as by hand, nothing beside it touched, and read back. */
+/* Case i at an address, with some bytes of space behind it: written as by hand, nothing beside it touched, and read back. */
 static void written(const struct record *r, size_t i, size_t at, size_t behind)
 {
     uint8_t space[ALIGNMENTS + 2 * ROOM], hand[ROOM] = {0};
-    int before = failures;
     memset(space, FILL, sizeof space);
-    EXPECT(unhex(r->bytes(i), hand) == r->length);
-    EXPECT(r->encode(i, space + at, r->length + behind) == SIEVELAST_GRANTED);
-    EXPECT(!memcmp(space + at, hand, r->length));
-    EXPECT(all(space, at, FILL) && all(space + at + r->length, sizeof space - at - r->length, FILL));
-    EXPECT(r->decoded(i, space + at, r->length));
-    if (failures != before)
-        printf("%s: case %zu at alignment %zu, %zu bytes behind\n", r->name, i, at, behind);
+    EXPECT_IN(unhex(r->bytes(i), hand) == r->length, "%s: case %zu", r->name, i);
+    EXPECT_IN(r->encode(i, space + at, r->length + behind) == SIEVELAST_GRANTED, "%s: case %zu at %zu", r->name, i, at);
+    EXPECT_IN(!memcmp(space + at, hand, r->length), "%s: case %zu at %zu", r->name, i, at);
+    EXPECT_IN(all(space, at, FILL), "%s: case %zu at %zu", r->name, i, at);
+    EXPECT_IN(all(space + at + r->length, sizeof space - at - r->length, FILL), "%s: case %zu at %zu", r->name, i, at);
+    EXPECT_IN(r->decoded(i, space + at, r->length), "%s: case %zu at %zu", r->name, i, at);
 }
 
 /* Every space that is too short is refused and keeps every byte. */
@@ -286,7 +284,8 @@ static void short_spaces(const struct record *r, size_t i)
     uint8_t space[ROOM];
     memset(space, FILL, sizeof space);
     for (size_t length = 0; length < r->length; length++)
-        EXPECT(r->encode(i, space, length) == SIEVELAST_ROW_SPACE && all(space, sizeof space, FILL));
+        EXPECT_IN(r->encode(i, space, length) == SIEVELAST_ROW_SPACE && all(space, sizeof space, FILL),
+                  "%s: case %zu into %zu bytes", r->name, i, length);
     EXPECT(r->encode(i, NULL, 0) == SIEVELAST_ROW_SPACE);
 }
 
@@ -298,7 +297,8 @@ static void other_lengths(const struct record *r, size_t i)
     for (size_t length = 0; length <= sizeof hand; length++) {
         uint8_t *exact = session_memory(length ? length : 1);
         memcpy(exact, hand, length);
-        EXPECT(length == r->length ? r->decoded(i, exact, length) : r->refused(exact, length));
+        EXPECT_IN(length == r->length ? r->decoded(i, exact, length) : r->refused(exact, length), "%s: case %zu of %zu bytes",
+                  r->name, i, length);
         free(exact);
     }
     EXPECT(r->refused(NULL, 0));
@@ -313,12 +313,13 @@ static void other_marks(const struct record *r, size_t i)
     for (unsigned x = 0; x <= 0xffff; x++) {
         hand[0] = (uint8_t)(x >> 8);
         hand[1] = (uint8_t)x;
-        EXPECT(memcmp(hand, mark, sizeof mark) ? r->refused(hand, r->length) : r->decoded(i, hand, r->length));
+        EXPECT_IN(memcmp(hand, mark, sizeof mark) ? r->refused(hand, r->length) : r->decoded(i, hand, r->length),
+                  "%s: case %zu, mark %04x", r->name, i, x);
     }
     memcpy(hand, mark, sizeof mark);
     for (unsigned x = 1; r->zero && x <= 0xff; x++) {
         hand[r->zero] = (uint8_t)x;
-        EXPECT(r->refused(hand, r->length));
+        EXPECT_IN(r->refused(hand, r->length), "%s: case %zu, zero byte %02x", r->name, i, x);
     }
 }
 

@@ -138,10 +138,9 @@ static inline uint64_t session_ask(struct session *s)
 static inline void session_expect(struct session *s, uint64_t row, int line)
 {
     uint64_t got = session_ask(s), checked = row == SIEVELAST_GRANTED ? SIEVELAST_GRANTED : SIEVELAST_ROW_REPLY;
-    if (got != row || s->checked.row != checked)
-        printf("line %d: operation %d at level %d: row %d and at the check %d, not %d and %d\n", line, s->request.operation,
-               s->request.level, (int)got, (int)s->checked.row, (int)row, (int)checked);
-    expect(got == row && s->checked.row == checked, "the drive's row", line);
+    if (!expect(got == row && s->checked.row == checked, "the drive's row and the check's", line))
+        printf("    operation %d at level %d: %d and %d, not %d and %d\n", s->request.operation, s->request.level, (int)got,
+               (int)s->checked.row, (int)row, (int)checked);
 }
 #define EXPECT_ROW(s, row) session_expect(s, row, __LINE__)
 

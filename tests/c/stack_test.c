@@ -152,7 +152,8 @@ int main(void)
     rest(s);
     for (size_t i = 0; i < CALLS && deepest[i].call; i++) {
         printf("stack: %s: %zu bytes\n", deepest[i].call, deepest[i].bytes);
-        EXPECT(deepest[i].bytes < SIEVELAST_STACK_BYTES);
+        EXPECT_IN(deepest[i].bytes < SIEVELAST_STACK_BYTES, "%s: %zu bytes of %d", deepest[i].call, deepest[i].bytes,
+                  SIEVELAST_STACK_BYTES);
     }
     return expected("stack");
 }
