@@ -11,9 +11,9 @@
  * One call at a time works on a record and its medium; calls on different records may run in different threads.
  *
  * A call is whole only once it has returned. A program stopped within a grant leaves medium and record as far as the call came:
- * some of the medium's bytes, the keys and the tables may be new while the nonce is not yet entered. Until change 14 of the
- * requests lands, the caller must keep the frame and a copy of the record from before the call to do it again: examples/store.c
- * shows how. A refused format leaves the medium and overwrites the record.
+ * some of the medium's bytes, the keys and the tables may be new while the nonce is not yet entered. Until the drive covers
+ * that itself (change 14 of its requests), the caller must keep the frame and a copy of the record from before the call to do it
+ * again: examples/store.c shows how. A refused format leaves the medium and overwrites the record.
  */
 #ifndef SIEVELAST_STORE_H
 #define SIEVELAST_STORE_H

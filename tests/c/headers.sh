@@ -9,13 +9,14 @@ strict='-pedantic -Wall -Wextra -Wconversion -Wsign-conversion -Wshadow -Wundef 
 work=$(mktemp -d)
 trap 'rm -rf "$work"' EXIT
 count=0
+fail() { echo "headers: $*" >&2; exit 1; }
 
 # compiles COMPILER LANGUAGE STANDARD HEADER..: these headers, in this order, one after the other
 compiles() {
     with="$1 -x $2 -std=$3"
     shift 3
     printf '#include "%s"\n' "$@" >"$work/source"
-    $with $strict -I"$root/include" -fsyntax-only "$work/source" || { echo "headers: not with '$with': $*" >&2; exit 1; }
+    $with $strict -I"$root/include" -fsyntax-only "$work/source" || fail "not with '$with': $*"
     count=$((count + 1))
 }
 
@@ -35,9 +36,19 @@ every() {
 
 for compiler in gcc clang; do every $compiler c c99 c11 c17 gnu17; done
 for compiler in g++ clang++; do every $compiler c++ c++11 c++17 c++20; done
-[ "$(ls "$root"/include | wc -l)" -eq 3 ] || { echo 'headers: include/ has other headers than this test' >&2; exit 1; }
-[ "$count" -gt 0 ] || { echo 'headers: no compiler here' >&2; exit 1; }
-${CXX:-c++} -std=c++11 -pedantic -Wall -Wextra -Werror -I"$root/include" "$root/tests/c/headers.cc" \
-    "$root/target/staticlib/libsolver.a" "$root/target/staticlib/libstore.a" -o "$work/headers"
-"$work/headers"
-echo "headers: $count compiled without a warning"
+[ "$(ls "$root"/include | wc -l)" -eq 3 ] || fail 'include/ has other headers than this test'
+[ "$count" -gt 0 ] || fail 'no gcc and no clang here'
+
+# another machine is refused by name
+echo '#include "sievelast.h"' >"$work/source"
+! ${CC:-cc} -x c -U__LP64__ -I"$root/include" -fsyntax-only "$work/source" 2>"$work/said" || fail 'another machine is not refused'
+grep -q '#error.*x86-64' "$work/said" || fail "another machine is refused by: $(cat "$work/said")"
+
+if command -v "${CXX:-c++}" >/dev/null; then
+    ${CXX:-c++} -std=c++11 -pedantic -Wall -Wextra -Werror -I"$root/include" "$root/tests/c/headers.cc" \
+        "$root/target/staticlib/libsolver.a" "$root/target/staticlib/libstore.a" -o "$work/headers"
+    "$work/headers"
+else
+    echo 'headers: no C++ compiler here, headers.cc left out'
+fi
+echo "headers: compiled $count times without a warning"

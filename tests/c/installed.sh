@@ -65,6 +65,7 @@ build() {
     ${CC:-cc} -O2 -Wall -Wextra -Werror "$1" $flags -Wl,--trace -o "$name" >linked || fail "$1 does not build"
     for file in $files $(cat linked); do
         case $file in
+        "$root"/*/../*) fail "$name uses $file" ;;
         "$(dirname "$1")"/*) ;;
         "$root"/*) fail "$name uses $file" ;;
         esac
