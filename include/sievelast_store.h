@@ -63,14 +63,14 @@ struct sievelast_digest {
 
 /* Writes the 36 bytes of a credential at the start of space and gives its key, from the key of its slot (32 bytes). Row 28: a
  * field is none that a drive takes. Bytes of space after the credential keep their values; a refused call writes none. */
-struct sievelast_issued sievelast_issue(struct sievelast_credential fields, const uint8_t *key, size_t key_len,
-                                        uint8_t *space, size_t space_len);
+struct sievelast_issued sievelast_issue(struct sievelast_credential fields, const uint8_t *key, size_t key_len, uint8_t *space,
+                                        size_t space_len);
 
 /* HMAC with SHA-256, for whoever sets keys: operation 7's new key is the HMAC, under the signing slot's key, of the request's 28
  * bytes and the seed's 16. */
 struct sievelast_digest sievelast_hmac(const uint8_t *key, size_t key_len, const uint8_t *message, size_t message_len);
 
-/* ---- format and gate as the archive exports them, over a record's parts. Use the two functions below, which pass them in order. */
+/* ---- format and gate as the archive exports them, over a record's parts: use the two below, which pass them in order */
 uint64_t sievelast_format_parts(uint64_t *size, uint64_t *highwater, uint8_t keys[SIEVELAST_RECORD_KEYS],
                                 uint32_t tables[SIEVELAST_RECORD_TABLES], uint64_t lengths[SIEVELAST_MEMORIES],
                                 uint8_t slots[SIEVELAST_RECORD_PLACES], uint32_t holders[SIEVELAST_RECORD_PLACES],
@@ -101,7 +101,8 @@ static inline uint64_t sievelast_format(struct sievelast_drive *drive, uint8_t *
 }
 
 /* Puts a frame to the gate at a clock reading in milliseconds. A grant writes the reply at the start of reply; bytes after it
- * keep their values, and a refused call writes none. A reply space of SIEVELAST_MOST_REPLY_BYTES is enough for every request. */
+ * keep their values. A refused call writes no byte of reply and medium; in the record the mark may rise and entries that it has
+ * outlived go, but row 1 moves nothing. A reply space of SIEVELAST_MOST_REPLY_BYTES is enough for every request. */
 static inline struct sievelast_answered sievelast_gate(struct sievelast_drive *drive, uint8_t *medium, size_t medium_len,
                                                        const uint8_t *frame, size_t frame_len, uint64_t clock, uint8_t *reply,
                                                        size_t reply_len)

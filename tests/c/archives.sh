@@ -21,12 +21,17 @@ names() { nm -g "$1" "$2" | awk 'NF > 1 { print $NF }' | sort -u; }
 
 # same WHAT: are the lists expected and found the same?
 same() {
-    cmp -s "$work/expected" "$work/found" || { echo "archives: $1 (- expected, + found):" >&2; diff -U0 "$work/expected" "$work/found" >&2; exit 1; }
+    if ! diff -U0 "$work/expected" "$work/found" >"$work/differ"; then
+        echo "archives: $1 (- expected, + found):" >&2
+        cat "$work/differ" >&2
+        exit 1
+    fi
 }
 
-# keeps_nothing ARCHIVE
+# keeps_nothing ARCHIVE: no byte of data or bss
 keeps_nothing() {
-    size -t "$1" | awk -v archive="$1" 'END { if ($2 + $3 != 0) { print "archives: " archive " has " $2 + $3 " bytes that can be written"; exit 1 } }'
+    bytes=$(size -t "$1" | awk 'END { print $2 + $3 }')
+    [ "$bytes" -eq 0 ] || { echo "archives: $1 has $bytes bytes that can be written" >&2; exit 1; }
 }
 
 declared sievelast.h >"$work/expected"
