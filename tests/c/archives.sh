@@ -1,6 +1,6 @@
 #!/bin/sh
 # What the archives hand to a program: the functions that the headers declare and no other global name; of the program they want
-# memcpy and memset; no byte of data that could be written, so that no call keeps anything; and both link into one shared object.
+# no more than memcpy and memset; no byte of data that could be written, so that no call keeps anything; and both link into one shared object.
 #
 #   tests/c/archives.sh      after rt staticlib solver and rt staticlib store
 set -eu
@@ -44,10 +44,10 @@ names --defined-only "$store" >"$work/found"
 same "what $store exports"
 count=$((count + $(wc -l <"$work/found")))
 
-printf 'memcpy\nmemset\n' >"$work/expected"
+: >"$work/expected"
 for archive in "$solver" "$store"; do
-    names --undefined-only "$archive" >"$work/found"
-    same "what $archive needs"
+    names --undefined-only "$archive" | sed -e '/^memcpy$/d' -e '/^memset$/d' >"$work/found"
+    same "what $archive needs beside memcpy and memset"
     keeps_nothing "$archive"
 done
 ${CC:-cc} -shared -Wl,--fatal-warnings -Wl,--whole-archive "$solver" "$store" -Wl,--no-whole-archive -o "$work/both.so"

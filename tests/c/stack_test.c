@@ -21,7 +21,8 @@ static struct session *step_session;
 
 static void entry(void) { step_taken(step_session); }
 
-/* Takes the step on the painted stack; how deep it came. The few bytes that starting and leaving it need count too. */
+/* Takes the step on the painted stack; how deep it came. The few bytes that starting and leaving it need count too, and at the first
+ * call what the dynamic linker needs to find memcpy. */
 static size_t depth(struct session *s, session_step *step)
 {
     size_t clean = 0;
