@@ -1,6 +1,7 @@
 #!/bin/sh
 # What the archives hand to a program: the functions that the headers declare and no other global name; of the program they want
-# no more than memcpy and memset; no byte of data that could be written, so that no call keeps anything; and both link into one shared object.
+# no more than memcpy and memset; no byte of data that could be written, so that no call keeps anything; and both link into one
+# shared object.
 #
 #   tests/c/archives.sh      after rt staticlib solver and rt staticlib store
 set -eu

@@ -48,6 +48,21 @@ status=0
 "$root/tools/install" 2>said || status=$?
 [ "$status" -eq 2 ] || fail "without PREFIX the status is $status"
 
+# ---- an archive that is missing is built by rt, here one that copies it; where that fails nothing is installed
+mkdir tree bin
+cp -r "$root/include" "$root/tools" tree
+cat >bin/rt <<EOT
+#!/bin/sh
+[ "\$1" = staticlib ] && mkdir -p target/staticlib && cp "$root/target/staticlib/lib\$2.a" target/staticlib
+EOT
+chmod +x bin/rt
+PATH=$work/bin:$PATH tree/tools/install made >said
+holds made "$work/made"
+rm tree/target/staticlib/libstore.a
+echo 'exit 1' >bin/rt
+! PATH=$work/bin:$PATH tree/tools/install refused >said || fail 'it goes on where rt fails'
+[ ! -e refused ] || fail "rt failed, and there is $(find refused)"
+
 # ---- flags
 if command -v pkg-config >/dev/null; then
     flags=$(PKG_CONFIG_PATH=$work/prefix/lib/pkgconfig pkg-config --cflags --libs sievelast)
