@@ -20,11 +20,15 @@ def main():
         bar(f"SHA-256 of 1 MiB, of the speed of {column}", kept["sha256"][column][-1][2], least=least)
     for state in ["empty", "full", "steady"]:
         bar(f"look, level 0, {state}: times its own hashing", kept[f"look 0 0 {state}"][1][0], most=1.3)
+    for state in ["empty", "full", "steady"]:
+        bar(f"look, level 0, {state}, lent: times its own hashing", kept[f"look 0 0 {state}"][4][0], most=1.15)
     for state in ["empty", "full"]:
         bar(f"write of 1 MiB, level 1, {state}: times its own hashing", kept[f"write {1 << 20} 1 {state}"][1][0], most=1.05)
     for state in ["empty", "full"]:
         worst = max(kept[f"{row} 0 0 {state}"][0][0] for row in range(2, 8))
         bar(f"junk, the slowest of rows 2 to 7, {state}: µs", worst / 1000, most=1.0)
+    worst = max(kept[f"{row} 0 0 empty"][3][0] for row in range(2, 8))
+    bar("junk, the slowest of rows 2 to 7, empty, lent: µs", worst / 1000, most=0.1)
     for name, found in kept.items():
         if name.startswith("program "):
             for how, f in [("processor time", found[1]), ("the clock", found[2])]:

@@ -18,6 +18,7 @@ def feed(what, times=1):
 
 
 READ = ["target/bench/feed", "read"]
+LENT = ["target/bench/feed", "lent"]
 
 
 def text_of(words, path):
@@ -41,12 +42,13 @@ def spent(words, path):
 
 
 def make(path, kind, size, level, state, frames, big):
-    """Makes an input, and sees that gate_bench grants and refuses what it should. The calls in it."""
+    """Makes an input, and sees that the gate, by value and lent, grants and refuses what it should. The calls in it."""
     words = [str(w) for w in [FRAMES, path, kind, size, level, state, frames, big]]
     due = subprocess.run(words, check=True, capture_output=True, text=True).stdout
-    got = text_of(GATE_BENCH, path)
-    if got != due:
-        sys.exit(f"{words}: {got.strip()}, and not {due.strip()}")
+    for process in [GATE_BENCH, LENT]:
+        got = text_of(process, path)
+        if got != due:
+            sys.exit(f"{words}: {process}: {got.strip()}, and not {due.strip()}")
     granted, _, refused, _ = due.split()
     return int(granted) + int(refused)
 

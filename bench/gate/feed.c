@@ -6,6 +6,8 @@
  *     libcrypto N  the same, by libcrypto
  *     copy N       of a read the bytes it asks for, copied N times from the medium to the reply; of a write its data, to the
  *                  medium
+ *     lent         puts it to the gate of a freshly formatted drive whose record is lent (crate `store`), and prints in the end what
+ *                  gate_bench prints
  *
  * The digests of a frame: the credential under its slot's key, what the frame's digest covers under the credential key, and at
  * level 2 as many bytes as the reply's digest covers. Operation 7 sets keys here too. It prints how many frames had the digest
@@ -13,6 +15,7 @@
 #define OPENSSL_SUPPRESS_DEPRECATED
 #include "records.h"
 #include "../libcrypto_hmac.h"
+#include "sievelast_store.h"
 #include <unistd.h>
 
 uint32_t digest_hmac(const uint8_t *key, size_t key_length, const uint8_t *message, size_t message_length,
@@ -25,7 +28,9 @@ typedef void hmac_call(const uint8_t *key, const uint8_t *a, size_t a_length, co
 
 static uint8_t block[BLOCK + CREDENTIAL + REQUEST + DIGEST], reply[8 + MOST_DATA + DIGEST], *medium;
 static uint8_t keys[5][4][DIGEST];      /* by slot and partition */
-static uint64_t calls, same;
+static uint64_t calls, same, granted;
+static struct sievelast_drive drive;
+static int is_lent;                     /* whether frames are put to the gate */
 static hmac_call *hmac;                 /* of two parts, one after the other; NULL where none is asked for */
 static long times;                      /* that each work is done */
 
@@ -81,9 +86,16 @@ static void copy(const uint8_t *request, size_t n)
     __asm__ volatile("" : : : "memory");
 }
 
-static void serve(const uint8_t *frame, size_t n)
+static void put_to_gate(const uint8_t *frame, size_t n, uint64_t clock)
+{
+    granted += !sievelast_gate(&drive, medium, MEDIUM, frame, n, clock, reply, sizeof reply).row;
+}
+
+static void serve(const uint8_t *frame, size_t n, uint64_t clock)
 {
     calls++;
+    if (is_lent)
+        put_to_gate(frame, n, clock);
     if (n < CREDENTIAL + REQUEST + DIGEST)
         n = CREDENTIAL + REQUEST + DIGEST;
     for (long i = 0; i < times; i++)
@@ -105,9 +117,18 @@ static size_t read_block(void)
     return done;
 }
 
+/* The drive that gate_bench formats. */
+static void format(void)
+{
+    static const uint8_t master[DIGEST];
+    if (sievelast_format(&drive, medium, MEDIUM, 1, master, DIGEST, keys[3][0], DIGEST))
+        fail("not formatted");
+}
+
 int main(int count, char **words)
 {
     const char *word = count > 1 ? words[1] : "read";
+    is_lent = !strcmp(word, "lent");
     hmac = !strcmp(word, "ours") ? our_hmac : !strcmp(word, "libcrypto") ? libcrypto_hmac : NULL;
     times = count > 2 ? atol(words[2]) : 0;
     medium = malloc(MEDIUM);
@@ -115,14 +136,19 @@ int main(int count, char **words)
         fail("no memory");
     memset(medium, 0, MEDIUM);
     memset(keys[3], 1, sizeof keys[3]);
+    if (is_lent)
+        format();
     for (size_t n = read_block(); n; n = read_block())
         for (size_t at = 0; at + HEAD <= n && number(block + at, 2) == 0x4c49;) {
             size_t size = (size_t)number(block + at + 10, 4);
             if (size > n - at - HEAD)
                 break;
-            serve(block + at + HEAD, size);
+            serve(block + at + HEAD, size, number(block + at + 2, 8));
             at += HEAD + size;
         }
-    printf("%llu frames, %llu digests\n", (unsigned long long)calls, (unsigned long long)same);
+    if (is_lent)
+        printf("%llu granted, %llu refused\n", (unsigned long long)granted, (unsigned long long)(calls - granted));
+    else
+        printf("%llu frames, %llu digests\n", (unsigned long long)calls, (unsigned long long)same);
     return 0;
 }

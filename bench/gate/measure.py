@@ -1,5 +1,5 @@
 #!/usr/bin/env python3
-"""The gate against its own hashing. For each case two inputs are made (frames.c), one of them without the frames that are
+"""The gate against its own hashing, by value and, for looks and refusals, over a record that is lent. For each case two inputs are made (frames.c), one of them without the frames that are
 measured, and gate_bench and the programs that it is compared with (feed.c) are run on both by turns. A process's time is its
 processor time on the one input less that on the other, and less what the process that only reads takes."""
 
@@ -52,31 +52,46 @@ def others_of(kind, size, level):
     return others
 
 
+def nanoseconds(seconds):
+    return tables.quartiles([t * 1e9 for t in seconds])
+
+
+def ratio(over, under):
+    """Turn by turn."""
+    return tables.quartiles([o / u if u > 0 else float("inf") for o, u in zip(over, under)])
+
+
 def cells(kind, size, level, state):
-    """The gate's ns a call, and how often it takes the time of each other."""
+    """The gate's ns a call, and how often it takes the time of each other; for looks and refusals then the same of the lent gate,
+    over our hashing and over the gate by value."""
     big = BIG if kind in ("read", "write") else max(SMALL, size)
     frames = frames_of(kind, size, level)
     calls = make(INPUT, kind, size, level, state, frames, big) - make(BEFORE, kind, size, level, state, 0, big)
     others = others_of(kind, size, level)
-    times = {name: [] for name in ["gate", *others]}
+    times = {name: [] for name in ["gate", "lent", *others]}
+    lent = LENT if kind not in ("read", "write") else None
     for _ in range(TURNS):
         read = taken(READ)
         times["gate"].append((taken(GATE_BENCH) - read) / calls)
+        if lent:
+            times["lent"].append((taken(lent) - read) / calls)
         for name, (words, often) in others.items():
             times[name].append((taken(words) - read) / often / calls)
-    ratios = [[g / t if t > 0 else float("inf") for g, t in zip(times["gate"], times[name])] for name in others]
-    found = [tables.quartiles([t * 1e9 for t in times["gate"]])] + [tables.quartiles(r) for r in ratios]
+    found = [nanoseconds(times["gate"])] + [ratio(times["gate"], times[name]) for name in others]
+    if lent:
+        found += [nanoseconds(times["lent"]), ratio(times["lent"], times["ours"]), ratio(times["lent"], times["gate"])]
     tables.keep(f"{kind} {size} {level} {state}", found)
     return [tables.shown(*f) for f in found]
 
 
 HEADS = ["", "ns a call", "over our hashing", "over libcrypto's"]
+LENT_HEADS = HEADS + ["lent: ns a call", "over our hashing", "over by value"]
 
 
 def print_looks():
     rows = [[f"look, level {level}, {state}"] + cells("look", 0, level, state)
             for level in [0, 2] for state in ["empty", "full", "steady"]]
-    tables.table("Looks", HEADS, rows)
+    tables.table("Looks", LENT_HEADS, rows)
 
 
 def print_moves(kind, sizes):
@@ -88,11 +103,11 @@ def print_moves(kind, sizes):
 def print_refusals():
     rows = [[f"refused by row {row}, {state}"] + cells(str(row), 0, 0, state)
             for row in range(2, 8) for state in ["empty", "full"]]
-    tables.table("Junk, which needs no digest: over what hashing the frame would take", HEADS, rows)
+    tables.table("Junk, which needs no digest: over what hashing the frame would take", LENT_HEADS, rows)
     rows = [[f"{what}, {state}"] + cells("9", size, level, state)
             for what, size, level in [("look, level 0", 0, 0), ("write of 65,536, level 1", 65536, 1)]
             for state in ["empty", "full"]]
-    tables.table("Refused by row 9", HEADS, rows)
+    tables.table("Refused by row 9", LENT_HEADS, rows)
 
 
 def main():

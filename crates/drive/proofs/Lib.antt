@@ -13,3 +13,4 @@ pub mod Demand1
 pub mod Calls
 pub mod Demand3
 pub mod ChainStory
+pub mod LentCalls

@@ -1,16 +1,15 @@
 // The drive of document 01: its record, format and the gate.
 ghost use mathlib.Core.Path.{_≡_};
 ghost use Rattle.drive.specs.Met.{callOf, FormatMet, GateMet};
-use judge::ScopeFacts;
 use keyring::KEYS;
 use keyring::PARTITIONS;
 use memory::MEMORIES;
 use memory::PLACES;
 use state::TABLE;
-use wire::Parsed;
 
 mod admission;
 mod formatting;
+pub mod lent;
 mod replay;
 mod row1;
 
@@ -47,14 +46,6 @@ pub struct Formatted {
     pub drive: Drive,
 }
 
-// An answer's numbers: all of it but the drive's arrays.
-struct Core {
-    row: u32,
-    length: usize,
-    size: usize,
-    highwater: u64,
-}
-
 // Row and reply length; and of a grant the index of its slot's key, and what it puts into its partition's table: the next
 // version, a new extent's start.
 struct Outcome {
@@ -82,17 +73,13 @@ pub fn format(medium: &mut [u8], first: u32, master: &[u8], key: &[u8]) -> Forma
 }
 
 // Puts a frame to the drive at a clock reading: a grant, its reply at the start of `reply`; or one row number. The arrays are
-// taken out of the record before anything else and put into the one returned: so each is copied twice in a call, and lent
-// in between.
+// taken out of the record and put into the one returned: so each is copied twice in a call, and lent in between. `lent::gate`
+// copies none.
 pub fn gate(drive: Drive, medium: &mut [u8], frame: &[u8], clock: u64, reply: &mut [u8]) -> Answer
     ensures { λ r. ⌜ GateMet drive (now (medium .entry)) (callOf (now (frame .entry)) clock (now (reply .entry))) r (now (medium .exit)) (now (reply .exit)) ⌝ }
 {
-    let mut core = Core {
-        row: 1,
-        length: 0,
-        size: drive.size,
-        highwater: drive.highwater,
-    };
+    let size = drive.size;
+    let mut highwater = drive.highwater;
     let mut keys = drive.keys;
     let mut tables = drive.tables;
     let mut lengths = drive.lengths;
@@ -100,105 +87,27 @@ pub fn gate(drive: Drive, medium: &mut [u8], frame: &[u8], clock: u64, reply: &m
     let mut holders = drive.holders;
     let mut times = drive.times;
     let mut counts = drive.counts;
-    if !row1::passes_row1(drive.size, &tables, &lengths, medium.len()) {
-        return answered(core, keys, tables, lengths, slots, holders, times, counts);
-    }
-    let mark = row1::later(drive.highwater, clock);
-    core.highwater = mark;
-    replay::drop_outlived(
+    let v = lent::gate(
+        size,
+        &mut highwater,
+        &mut keys,
+        &mut tables,
         &mut lengths,
         &mut slots,
         &mut holders,
         &mut times,
         &mut counts,
-        mark,
-    );
-    let parsed = wire::parse(frame);
-    let Parsed::Fields(c, request) = parsed else {
-        core.row = wire::row_of(parsed);
-        return answered(core, keys, tables, lengths, slots, holders, times, counts);
-    };
-    let k = admission::memory_of(c);
-    let nonce = judge::entry_of(c, request);
-    let replayed = replay::is_replayed(&lengths, &slots, &holders, &times, &counts, k, nonce);
-    let held = lengths[k];
-    let facts = ScopeFacts {
-        size: core.size,
-        highwater: mark,
-        replayed,
-        held,
-    };
-    let at = TABLE * c.partition as usize;
-    let end = at + TABLE;
-    let out = admission::admit(
-        facts,
-        &keys,
-        &tables[at..end],
         medium,
         frame,
+        clock,
         reply,
-        c,
-        request,
     );
-    core.row = out.row;
-    core.length = out.length;
-    if out.row != 0 {
-        return answered(core, keys, tables, lengths, slots, holders, times, counts);
-    }
-    admission::change_keys(&mut keys, frame, out.key, c, request);
-    let o = request.operation;
-    partition::apply(
-        &mut tables[at..end],
-        o,
-        c.object,
-        out.nextversion,
-        out.newstart,
-    );
-    replay::enter(
-        &mut lengths,
-        &mut slots,
-        &mut holders,
-        &mut times,
-        &mut counts,
-        k,
-        nonce,
-    );
-    answered(core, keys, tables, lengths, slots, holders, times, counts)
-}
-
-// An answer, with the drive of these parts.
-fn answered(
-    core: Core,
-    keys: [u8; KEYS],
-    tables: [u32; TABLES],
-    lengths: [usize; MEMORIES],
-    slots: [u8; PLACES],
-    holders: [u32; PLACES],
-    times: [u64; PLACES],
-    counts: [u32; PLACES],
-) -> Answer
-    ensures { λ r. ⌜ r ≡ record {
-      row = core .row;
-      length = core .length;
-      drive = record {
-        size = core .size;
-        highwater = core .highwater;
-        keys = keys;
-        tables = tables;
-        lengths = lengths;
-        slots = slots;
-        holders = holders;
-        times = times;
-        counts = counts;
-      };
-    } ⌝ }
-{
     Answer {
-        row: core.row,
-        length: core.length,
+        row: v.row,
+        length: v.length,
         drive: Drive {
-            size: core.size,
-            highwater: core.highwater,
+            size,
+            highwater,
             keys,
             tables,
             lengths,

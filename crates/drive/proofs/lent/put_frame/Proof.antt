@@ -2,7 +2,7 @@
 use mathlib.Core.Path.{_≡_, refl, sym, ap, _∙_}
 use mathlib.Core.Bool.{Bool, true, false, _&&_, not}
 use mathlib.Core.List.{[], map}
-use Prim.Native.Nat.{_*_, _<_}
+use Prim.Native.Nat.{_<_}
 use native.Mathlib.Omega.{arith}
 use lib.Dec.{leb}
 use lib.ListN.{length, getD}
@@ -18,34 +18,34 @@ use Rattle.wire.specs.declared.ParsedRequest.{ParsedRequest}
 use Rattle.wire.specs.declared.Parsed.the-variants.{Refused}
 use Rattle.wire.specs.Parse.{answerOf, frameAnswer, frameRow, numbersOf}
 use Rattle.wire.specs.ParseLaws.{answered-refused, answered-row}
-use Rattle.keyring.specs.Keys.{partitionCount, keysSize}
-use Rattle.memory.specs.Memory.{memoryCount, memoryPlaces}
-use Rattle.state.specs.Table.{tableSize, partitionView}
+use Rattle.keyring.specs.Keys.{partitionCount}
+use Rattle.memory.specs.Memory.{memoryCount}
+use Rattle.state.specs.Table.{partitionView}
 use Rattle.drive.specs.declared.Drive.{Drive}
-use Rattle.drive.specs.declared.Answer.{Answer}
 use Rattle.drive.specs.View.{view, tablesIn, memoriesOf, entriesFit, MemoriesFit, CountsFit}
 use Rattle.drive.specs.Admission.{ParsedTo}
 use Rattle.drive.specs.Met.{callOf}
+use Rattle.drive.specs.Lent.{recordOf}
 use Rattle.drive.proofs.Frames.{in-four, in-five, long}
 use Rattle.drive.proofs.Memories.{refreshed-view, sound-view}
 use Rattle.drive.proofs.Gates.{gate-unready, gate-framed, frame-not-1, meets}
 use Rattle.drive.proofs.Scopes.{ready-row1, Opened, mem, long-part, ready, met-refused, has-room, met-granted}
 use borrow.Author.Needs.{needs}
-use Rattle.drive.proofs.gate.Statement.{statement}
-use Rattle.drive.proofs.gate.Tie as tie
+use Rattle.drive.proofs.lent.put_frame.Statement.{statement}
+use Rattle.drive.proofs.lent.put_frame.Tie as tie
 
 -- ---- the places, each by its neighbour
 abbrev at-start : tie.After-passes-row1 → tie.Start
 at-start t = t .before .before .before .before .before .before .before .before .before .before .before .before .before
 
-abbrev at-later : tie.After-counts2 → tie.After-later
+abbrev at-later : tie.After-drop-outlived-arg5 → tie.After-later
 at-later t = t .before .before .before .before .before
 
-abbrev at-sound : tie.After-counts2 → tie.Else1
-at-sound t = at-later t .before
+abbrev at-sound : tie.After-drop-outlived-arg5 → tie.Else1
+at-sound t = at-later t .before .before
 
 abbrev at-fresh : tie.After-parse → tie.After-drop-outlived
-at-fresh t = t .before .before .before .before .before .before
+at-fresh t = t .before .before .before .before .before .before .before .before .before .before .before
 
 abbrev at-parse : tie.After-known-told → tie.After-parse
 at-parse t = t .before .before .before
@@ -56,26 +56,26 @@ at-fields t = t .before
 abbrev at-memory : tie.After-entry-of → tie.After-memory-of
 at-memory t = t .before
 
-abbrev at-nonce : tie.After-counts4 → tie.After-entry-of
+abbrev at-nonce : tie.After-is-replayed-arg5 → tie.After-entry-of
 at-nonce t = t .before .before .before .before .before
 
-abbrev at-scope : tie.After-keys2 → tie.After-is-replayed
-at-scope t = t .before .before
+abbrev at-scope : tie.After-admit-arg → tie.After-is-replayed
+at-scope t = t .before .before .before
 
-abbrev at-admit : tie.After-struct-known2 → tie.After-admit
-at-admit t = t .before .before .before .before .before
+abbrev at-admit : tie.After-slice-known17 → tie.After-admit
+at-admit t = t .before .before .before .before
 
-abbrev at-granted : tie.After-keys3 → tie.Else2
+abbrev at-granted : tie.After-change-keys-arg → tie.Else2
 at-granted t = t .before
 
-abbrev at-keys : tie.After-keys4 → tie.After-change-keys
-at-keys t = t .before
+abbrev at-keys : tie.After-slice-known18 → tie.After-change-keys
+at-keys t = t .before .before
 
-abbrev at-table : tie.After-lengths6 → tie.After-apply
-at-table t = t .before .before
+abbrev at-table : tie.After-enter-arg → tie.After-apply
+at-table t = t .before .before .before
 
-abbrev at-entered : tie.After-answered4 → tie.After-enter
-at-entered t = t .before .before .before .before .before .before
+abbrev at-entered : tie.After-slice-known24 → tie.After-enter
+at-entered t = t .before .before .before .before .before .before .before .before .before .before
 
 -- ---- from each to those that are asked for often
 abbrev start1 : tie.Else1 → tie.Start
@@ -90,102 +90,95 @@ fresh-of t = at-fresh (at-parse (at-fields (at-memory t)))
 abbrev start3 : tie.After-is-replayed → tie.Start
 start3 t = start2 (fresh-of (at-nonce (t .before)))
 
+abbrev opening : tie.After-admit-arg4 → tie.After-is-replayed
+opening t = at-scope (t .before .before .before .before)
+
 abbrev admit-of : tie.Else2 → tie.After-admit
 admit-of t = at-admit (t .before)
-
-abbrev opening : tie.After-admit-arg3 → tie.After-is-replayed
-opening t = at-scope (t .before .before .before .before)
 
 abbrev scope-of : tie.Else2 → tie.After-is-replayed
 scope-of t = opening (admit-of t .before)
 
-abbrev table-of : tie.After-answered4 → tie.After-apply
+abbrev memories-of : tie.After-admit → tie.After-drop-outlived
+memories-of t = fresh-of (at-nonce (opening (t .before) .before))
+
+abbrev table-of : tie.After-slice-known24 → tie.After-apply
 table-of t = at-table (at-entered t .before .before .before .before .before)
 
 abbrev grant-of : tie.After-apply → tie.Else2
 grant-of t = at-granted (at-keys (t .before .before) .before)
 
--- ---- how long the arrays are
-wide : (t : tie.Start) → let d = t .args .drive in
-    (length (d .keys) ≡ keysSize) × (length (d .tables) ≡ partitionCount * tableSize) × (length (d .lengths) ≡ memoryCount)
-    × (length (d .slots) ≡ memoryPlaces) × (length (d .holders) ≡ memoryPlaces) × (length (d .times) ≡ memoryPlaces)
-    × (length (d .counts) ≡ memoryPlaces)
-wide t = (search needs, search needs, search needs, search needs, search needs, search needs, search needs)
+-- ---- the record that is lent
+abbrev was : tie.Start → Drive
+was t =
+    let a = t .args in
+    recordOf (a .size) (a .highwater .now) (a .keys .now) (a .tables .now) (a .lengths .now) (a .slots .now) (a .holders .now)
+    (a .times .now) (a .counts .now)
 
 -- ---- row 1 does not apply: the record is sound, the medium its own, no count passes its array
 tested : (t : tie.After-passes-row1) → let a = at-start t .args in
-    t .passes-row1 .result ≡ (sound (view (a .drive)) && length (a .medium .now) is a .drive .size)
+    t .passes-row1 .result ≡ (sound (view (was (at-start t))) && length (a .medium .now) is a .size)
 tested t =
     let a = at-start t .args in
-    let w = wide (at-start t) in
+    let w = at-start t .pre in
     t .passes-row1 .ensures .0
-    ∙ ap (λ (b : Bool). b && length (a .medium .now) is a .drive .size)
-    (sym (sound-view (a .drive) (w .2) (w .3) (w .4) (w .5) (w .6)))
+    ∙ ap (λ (b : Bool). b && length (a .medium .now) is a .size)
+    (sym (sound-view (was (at-start t)) (w .lengths) (w .slots) (w .holders) (w .times) (w .counts)))
 
 ready-of : (t : tie.Else1) → t .before .passes-row1 .result ≡ true
 ready-of t = not-false (t .before .passes-row1 .result) (t .if1 .left)
 
-counted : (t : tie.Else1) → CountsFit (start1 t .args .drive)
+counted : (t : tie.Else1) → CountsFit (was (start1 t))
 counted t =
-    let d = start1 t .args .drive in
+    let d = was (start1 t) in
     let n = length (start1 t .args .medium .now) in
-    let w = wide (start1 t) in
+    let w = start1 t .pre in
     let A = leb (d .size) largestMedium && every (soundPartition (quarter (d .size))) (map partitionView (tablesIn partitionCount (d .tables))) in
     let all = and-l (A && every entriesFit (d .lengths)) (n is d .size) (sym (t .before .passes-row1 .ensures .0) ∙ ready-of t) in
     record {
-      keys = w .0;
-      tables = w .1;
+      keys = w .keys;
+      tables = w .tables;
       objects = t .before .passes-row1 .ensures .1 (ready-of t);
       memories = record {
-        five = w .2;
+        five = w .lengths;
         entries = and-r A (every entriesFit (d .lengths)) all;
-        slots = w .3;
-        holders = w .4;
-        times = w .5;
-        counts = w .6;
+        slots = w .slots;
+        holders = w .holders;
+        times = w .times;
+        counts = w .counts;
       };
     }
 
 sound-of : (t : tie.Else1) → let a = start1 t .args in
-    (sound (view (a .drive)) ≡ true) × (length (a .medium .now) ≡ a .drive .size)
+    (sound (view (was (start1 t))) ≡ true) × (length (a .medium .now) ≡ a .size)
 sound-of t =
     let a = start1 t .args in
+    let d = was (start1 t) in
     let e = sym (tested (t .before)) ∙ ready-of t in (
-      and-l (sound (view (a .drive))) (length (a .medium .now) is a .drive .size) e,
-      eqb-true (length (a .medium .now)) (a .drive .size)
-          (and-r (sound (view (a .drive))) (length (a .medium .now) is a .drive .size) e),
+      and-l (sound (view d)) (length (a .medium .now) is a .size) e,
+      eqb-true (length (a .medium .now)) (a .size) (and-r (sound (view d)) (length (a .medium .now) is a .size) e),
     )
 
-row1-of : (t : tie.Else1) → let a = start1 t .args in row1 (view (a .drive)) (a .medium .now) ≡ false
+row1-of : (t : tie.Else1) → row1 (view (was (start1 t))) (start1 t .args .medium .now) ≡ false
 unfolding view
 row1-of t =
-    let a = start1 t .args in
-    ready-row1 (view (a .drive)) (a .medium .now) (t .before .passes-row1 .result) (tested (t .before)) ∙ ap not (ready-of t)
+    ready-row1 (view (was (start1 t))) (start1 t .args .medium .now) (t .before .passes-row1 .result) (tested (t .before))
+    ∙ ap not (ready-of t)
 
 -- ---- after drop_outlived: the drive at the clock reading
 abbrev now : tie.After-drop-outlived → Drive
 now t =
-    let d = start2 t .args .drive in
-    let l = t .drop-outlived .last in
-    record {
-      size = d .size;
-      highwater = at-later (t .before) .later .result;
-      keys = d .keys;
-      tables = d .tables;
-      lengths = l .0;
-      slots = l .1 .0;
-      holders = l .1 .1 .0;
-      times = l .1 .1 .1 .0;
-      counts = l .1 .1 .1 .1 .0;
-    }
-
-view-of : (t : tie.After-drop-outlived) → let a = start2 t .args in view (now t) ≡ refresh (a .clock) (view (a .drive))
-view-of t =
     let a = start2 t .args in
+    let l = t .drop-outlived .last in
+    recordOf (a .size) (at-later (t .before) .later .result) (a .keys .now) (a .tables .now) (l .0) (l .1 .0) (l .1 .1 .0)
+    (l .1 .1 .1 .0) (l .1 .1 .1 .1 .0)
+
+view-of : (t : tie.After-drop-outlived) → view (now t) ≡ refresh (start2 t .args .clock) (view (was (start2 t)))
+view-of t =
     let k = at-later (t .before) .later in
     let l = t .drop-outlived .last in
-    refreshed-view (a .drive) (a .clock) (k .result) (l .0) (l .1 .0) (l .1 .1 .0) (l .1 .1 .1 .0) (l .1 .1 .1 .1 .0) (k .ensures)
-    (t .drop-outlived .ensures .0)
+    refreshed-view (was (start2 t)) (start2 t .args .clock) (k .result) (l .0) (l .1 .0) (l .1 .1 .0) (l .1 .1 .1 .0)
+    (l .1 .1 .1 .1 .0) (k .ensures) (t .drop-outlived .ensures .0)
 
 counted-of : (t : tie.After-drop-outlived) → CountsFit (now t)
 counted-of t =
@@ -223,7 +216,7 @@ opened t =
     let D = fresh-of n in
     let a = start2 D .args in
     record {
-      lent = a .drive;
+      lent = was (start2 D);
       fresh = now D;
       clock = a .clock;
       medium = a .medium .now;
@@ -249,34 +242,32 @@ left-of t = fresh-of (at-nonce (scope-of (grant-of t) .before)) .drop-outlived .
 returns : tie.Need-returns
 unfolding view
 returns c =
-    let b = c .before .before in
+    let b = c .before in
+    let d = was (at-start b) in
     let a = at-start b .args in
-    let e = c .answered .ensures in
-    meets (a .drive) (a .medium .now) (callOf (a .frame .now) (a .clock) (a .reply .now)) _ _ _ _
-    (gate-unready (view (a .drive)) (a .medium .now) (a .frame .now) (a .clock) (a .reply .now)
-    (ready-row1 (view (a .drive)) (a .medium .now) (b .passes-row1 .result) (tested b)
-    ∙ ap not (not-true (b .passes-row1 .result) (c .before .if1 .taken))))
-    (ap Answer.row e) (ap Answer.length e) (ap view (ap Answer.drive e)) (λ k. ap Answer.drive e) refl refl
+    meets d (a .medium .now) (callOf (a .frame .now) (a .clock) (a .reply .now)) _ _ _ _
+    (gate-unready (view d) (a .medium .now) (a .frame .now) (a .clock) (a .reply .now)
+    (ready-row1 (view d) (a .medium .now) (b .passes-row1 .result) (tested b)
+    ∙ ap not (not-true (b .passes-row1 .result) (c .if1 .taken))))
+    refl refl refl (λ k. refl) refl refl
 
 drop-outlived-requires : tie.Need-drop-outlived-requires
 drop-outlived-requires c κs = counted (at-sound c) .memories
 
 returns-2 : tie.Need-returns-2
 returns-2 c =
-    let told = c .before .before .enum-told .given in
-    let p = c .before .before .before .before in
+    let told = c .before .enum-told .given in
+    let p = c .before .before .before in
+    let d = was (start2 (at-fresh p)) in
     let a = start2 (at-fresh p) .args in
     let f = a .frame .now in
     let t : answerOf (Refused (told .0 .0)) ≡ frameAnswer f = ap answerOf (sym (told .1)) ∙ p .parse .ensures in
-    let r : c .before .row-of .result ≡ frameRow f =
-    c .before .row-of .ensures ∙ answered-row f (p .parse .result) (p .parse .ensures) in
+    let r : c .row-of .result ≡ frameRow f = c .row-of .ensures ∙ answered-row f (p .parse .result) (p .parse .ensures) in
     let z : frameRow f ≡ 0 → ⊥ =
     λ e. answered-refused f (told .0 .0) t .1 (answered-refused f (told .0 .0) t .0 ∙ e) in
-    let e = c .answered2 .ensures in
-    meets (a .drive) (a .medium .now) (callOf f (a .clock) (a .reply .now)) _ _ _ _
-    (gate-framed (view (a .drive)) (a .medium .now) f (a .clock) (a .reply .now) (row1-of (at-sound (at-fresh p .before))) z)
-    (ap Answer.row e ∙ r) (ap Answer.length e) (ap view (ap Answer.drive e) ∙ view-of (at-fresh p))
-    (λ k. absurd (frame-not-1 f (sym r ∙ sym (ap Answer.row e) ∙ k))) refl refl
+    meets d (a .medium .now) (callOf f (a .clock) (a .reply .now)) _ _ _ _
+    (gate-framed (view d) (a .medium .now) f (a .clock) (a .reply .now) (row1-of (at-sound (at-fresh p .before))) z)
+    r refl (view-of (at-fresh p)) (λ k. absurd (frame-not-1 f (sym r ∙ k))) refl refl
 
 is-replayed-requires : tie.Need-is-replayed-requires
 is-replayed-requires c κs =
@@ -286,57 +277,54 @@ is-replayed-requires c κs =
 mul-held : tie.Need-mul-held
 mul-held c = let h = low-memory (at-memory (at-nonce (c .before))) in search needs
 
-array-read-held : tie.Need-array-read-held
-array-read-held c = low-memory (at-memory (at-nonce (c .before)))
-
-slice-aggregate-admit : tie.Need-slice-aggregate-admit
-slice-aggregate-admit c = sym (wide (start3 (at-scope c)) .0)
+slice-read-held : tie.Need-slice-read-held
+slice-read-held c =
+    let n = at-nonce (c .before .before) in
+    let h = low-memory (at-memory n) in
+    let w = fresh-of n .drop-outlived .ensures .1 .five in
+    omega (arith, h, w)
 
 part-admit-end : tie.Need-part-admit-end
 part-admit-end c =
     let t = at-scope (c .before) in
     let h = in-four (opened t .parsed) in
-    let w = wide (start3 t) .1 in
+    let w = start3 t .pre .tables in
     omega (arith, h, w)
 
 admit-requires : tie.Need-admit-requires
 admit-requires c κs = let o = opened (opening c) in (mem o, ready o)
 
+-- the memories' lengths are as drop_outlived kept them
+same-length-11 : tie.Need-same-length-11
+same-length-11 c = memories-of (at-admit (c .before)) .drop-outlived .kept .0
+
+same-length-12 : tie.Need-same-length-12
+same-length-12 c = memories-of (at-admit (c .before)) .drop-outlived .kept .1 .0
+
+same-length-13 : tie.Need-same-length-13
+same-length-13 c = memories-of (at-admit (c .before)) .drop-outlived .kept .1 .1 .0
+
+same-length-14 : tie.Need-same-length-14
+same-length-14 c = memories-of (at-admit (c .before)) .drop-outlived .kept .1 .1 .1 .0
+
+same-length-15 : tie.Need-same-length-15
+same-length-15 c = memories-of (at-admit (c .before)) .drop-outlived .kept .1 .1 .1 .1 .0
+
 returns-3 : tie.Need-returns-3
 returns-3 c =
-    let t = at-admit (c .before .before) in
+    let t = at-admit (c .before) in
     let o = opened (opening (t .before)) in
-    let e = c .answered3 .ensures in
-    met-refused o (t .admit .ensures (mem o) (ready o)) (c .before .if2 .taken) _
-    (ap Answer.row e) (ap Answer.length e) (ap Answer.drive e)
-
-slice-aggregate-change-keys : tie.Need-slice-aggregate-change-keys
-slice-aggregate-change-keys c = sym (wide (start3 (scope-of (at-granted c))) .0)
+    met-refused o (t .admit .ensures (mem o) (ready o)) (c .if2 .taken) _ refl refl refl
 
 change-keys-requires : tie.Need-change-keys-requires
 change-keys-requires c κs = long (opened (scope-of (at-granted c)) .parsed)
 
-part-tables-end : tie.Need-part-tables-end
-part-tables-end c =
+part-apply-end : tie.Need-part-apply-end
+part-apply-end c =
     let t = scope-of (at-granted (at-keys c .before)) in
     let h = in-four (opened t .parsed) in
-    let w = wide (start3 t) .1 in
+    let w = start3 t .pre .tables in
     omega (arith, h, w)
-
-slice-aggregate-enter : tie.Need-slice-aggregate-enter
-slice-aggregate-enter c = sym (left-of (at-table c) .five)
-
-slice-aggregate-enter-2 : tie.Need-slice-aggregate-enter-2
-slice-aggregate-enter-2 c = sym (left-of (at-table (c .before)) .slots)
-
-slice-aggregate-enter-3 : tie.Need-slice-aggregate-enter-3
-slice-aggregate-enter-3 c = sym (left-of (at-table (c .before .before)) .holders)
-
-slice-aggregate-enter-4 : tie.Need-slice-aggregate-enter-4
-slice-aggregate-enter-4 c = sym (left-of (at-table (c .before .before .before)) .times)
-
-slice-aggregate-enter-5 : tie.Need-slice-aggregate-enter-5
-slice-aggregate-enter-5 c = sym (left-of (at-table (c .before .before .before .before)) .counts)
 
 enter-requires : tie.Need-enter-requires
 enter-requires c κs =
@@ -348,11 +336,24 @@ enter-requires c κs =
       has-room o (admit-of e .admit .ensures (mem o) (ready o)) (e .if2 .left),
     )
 
-same-length-3 : tie.Need-same-length-3
-same-length-3 c = admit-of (grant-of (table-of c)) .admit .kept .1 .1 .1 .0
+-- and then as enter kept them
+abbrev first-of : tie.After-slice-known24 → tie.After-drop-outlived
+first-of t = memories-of (admit-of (grant-of (table-of t)))
 
-same-length-4 : tie.Need-same-length-4
-same-length-4 c = admit-of (grant-of (table-of c)) .admit .kept .1 .1 .1 .1 .1 .0
+same-length-20 : tie.Need-same-length-20
+same-length-20 c = at-entered c .enter .kept .0 ∙ first-of c .drop-outlived .kept .0
+
+same-length-21 : tie.Need-same-length-21
+same-length-21 c = at-entered c .enter .kept .1 .0 ∙ first-of c .drop-outlived .kept .1 .0
+
+same-length-22 : tie.Need-same-length-22
+same-length-22 c = at-entered c .enter .kept .1 .1 .0 ∙ first-of c .drop-outlived .kept .1 .1 .0
+
+same-length-23 : tie.Need-same-length-23
+same-length-23 c = at-entered c .enter .kept .1 .1 .1 .0 ∙ first-of c .drop-outlived .kept .1 .1 .1 .0
+
+same-length-24 : tie.Need-same-length-24
+same-length-24 c = at-entered c .enter .kept .1 .1 .1 .1 .0 ∙ first-of c .drop-outlived .kept .1 .1 .1 .1 .0
 
 returns-4 : tie.Need-returns-4
 returns-4 c =
@@ -365,17 +366,19 @@ returns-4 c =
     let l = n .enter .last in
     met-granted o (admit-of e .admit .ensures (mem o) (ready o)) (e .if2 .left) (g .change-keys .last .0) (p .apply .last .0)
     (g .change-keys .ensures) (p .apply .ensures .table (long-part o)) (s .entry-of .result) (s .entry-of .ensures)
-    (l .0) (l .1 .0) (l .1 .1 .0) (l .1 .1 .1 .0) (l .1 .1 .1 .1 .0) (n .enter .ensures) _ (c .answered4 .ensures)
+    (l .0) (l .1 .0) (l .1 .1 .0) (l .1 .1 .1 .0) (l .1 .1 .1 .1 .0) (n .enter .ensures) _ refl
 
-pub gate-spec : {M : Type 1} → statement M
-gate-spec =
+pub put-frame-spec : {M : Type 1} → statement M
+put-frame-spec =
     tie.close
     (tie.spec
-    (λ c. search needs) (λ c. search needs) (λ c κs. search needs) (λ c κs. search needs) returns (λ c κs. search needs) (λ c. search needs)
-    (λ c. search needs) (λ c. search needs) (λ c. search needs) (λ c. search needs) drop-outlived-requires (λ c κs. search needs) (λ c. search needs)
-    (λ c. search needs) (λ c κs. search needs) (λ c κs. search needs) returns-2 (λ c κs. search needs) (λ c κs. search needs) (λ c. search needs)
-    (λ c. search needs) (λ c. search needs) (λ c. search needs) (λ c. search needs) is-replayed-requires mul-held array-read-held (λ c. search needs)
-    (λ c. search needs) (λ c. search needs) slice-aggregate-admit (λ c. search needs) (λ c. search needs) (λ c. search needs) part-admit-end
-    admit-requires (λ c κs. search needs) (λ c. search needs) (λ c. search needs) returns-3 slice-aggregate-change-keys change-keys-requires
-    (λ c. search needs) (λ c. search needs) (λ c. search needs) part-tables-end (λ c κs. search needs) slice-aggregate-enter slice-aggregate-enter-2
-    slice-aggregate-enter-3 slice-aggregate-enter-4 slice-aggregate-enter-5 enter-requires (λ c κs. search needs) same-length-3 same-length-4 returns-4)
+    (λ c κs. search needs) (λ c. search needs) (λ c. search needs) returns (λ c κs. search needs) drop-outlived-requires
+    (λ c κs. search needs) (λ c. search needs) (λ c. search needs) (λ c κs. search needs) (λ c. search needs)
+    (λ c. search needs) (λ c. search needs) (λ c. search needs) (λ c. search needs) (λ c. search needs) returns-2
+    (λ c κs. search needs) (λ c κs. search needs) is-replayed-requires mul-held slice-read-held (λ c. search needs)
+    (λ c. search needs) (λ c. search needs) (λ c. search needs) (λ c. search needs) (λ c. search needs) part-admit-end
+    admit-requires (λ c. search needs) (λ c. search needs) same-length-11 same-length-12 same-length-13 same-length-14
+    same-length-15 (λ c. search needs) (λ c. search needs) returns-3 change-keys-requires (λ c. search needs)
+    (λ c. search needs) (λ c. search needs) part-apply-end (λ c κs. search needs) enter-requires (λ c. search needs)
+    (λ c. search needs) same-length-20 same-length-21 same-length-22 same-length-23 same-length-24 (λ c. search needs)
+    (λ c. search needs) returns-4)
