@@ -11,6 +11,7 @@
  *   11        the reply check: length of the reply, as 5 */
 #ifndef FUZZ_INPUT_H
 #define FUZZ_INPUT_H
+#include "lend.h"
 #include "paper.h"
 
 enum { HEAD = 12, MOST = 2048 };
@@ -70,9 +71,9 @@ static inline void put_right(void)
         r[2] = (uint8_t)(r[2] % 7 + 1), r[3] %= 3;
     }
     if (head[6] & 2)
-        put_number(r + 24, 4, (uint32_t)rest.length);
+        put_number(r + 24, 4, rest.length);
     if (head[6] & 4)
-        put_number(r + 20, 4, (uint32_t)rest.length);
+        put_number(r + 20, 4, rest.length);
 }
 
 /* Reads an input; the areas are lent and still open. */

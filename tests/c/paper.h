@@ -1,29 +1,27 @@
-/* What document 01 says of the builder and the reply check, in plain C and written from the paper, for the fuzz targets: the code
- * under test carries no counters, so these branches are also what guides the fuzzer. */
-#ifndef FUZZ_PAPER_H
-#define FUZZ_PAPER_H
+/* What document 01 says of a frame's records, the builder and the reply check, in plain C and written from the paper. The code under
+ * test carries no counters, so these branches are also what guides the fuzzer. paper_drive.h has format and gate. */
+#ifndef TESTS_PAPER_H
+#define TESTS_PAPER_H
 #include "hmac.h"
-#include "lend.h"
 
-static inline uint32_t number(const uint8_t *at, int width)
+static inline uint64_t number(const uint8_t *at, int width)
 {
-    uint32_t x = 0;
+    uint64_t x = 0;
     for (int i = 0; i < width; i++)
         x = x << 8 | at[i];
     return x;
 }
 
-static inline void put_number(uint8_t *at, int width, uint32_t x)
+static inline void put_number(uint8_t *at, int width, uint64_t x)
 {
     for (int i = width - 1; i >= 0; i--, x >>= 8)
         at[i] = (uint8_t)x;
 }
 
-/* Rows 3 and 4 over both records. */
-static inline int bad_fields(const uint8_t *c, const uint8_t *r)
+static inline int paper_row_3(const uint8_t *c, const uint8_t *r) { return number(c, 2) != 0x4c43 || number(r, 2) != 0x4c52; }
+
+static inline int paper_row_4(const uint8_t *c, const uint8_t *r)
 {
-    if (number(c, 2) != 0x4c43 || number(r, 2) != 0x4c52)
-        return 1;
     if (c[2] > 3 || c[3] > 4 || number(c + 12, 2) > 0x7f || c[14] > 2 || c[15] != 0)
         return 1;
     if (c[3] >= 3 && c[2] != 0)
@@ -31,14 +29,16 @@ static inline int bad_fields(const uint8_t *c, const uint8_t *r)
     return r[2] < 1 || r[2] > 7 || r[3] > 2 || number(r + 24, 4) > 1048576;
 }
 
-/* Row 5's data length, row 6, row 7. */
-static inline int misfits(const uint8_t *c, const uint8_t *r)
+/* Of the request alone; a frame must also be as long as its parts. */
+static inline int paper_row_5(const uint8_t *r)
 {
-    uint32_t object = number(c + 4, 4), version = number(c + 8, 4), a = number(r + 16, 4), b = number(r + 20, 4);
-    uint32_t n = number(r + 24, 4);
-    int slot = c[3], op = r[2], level = r[3];
-    if (n != (op == 2 ? b : op == 7 ? 16 : 0))
-        return 1;
+    return number(r + 24, 4) != (r[2] == 2 ? number(r + 20, 4) : r[2] == 7 ? 16 : 0);
+}
+
+static inline int paper_row_6(const uint8_t *c, const uint8_t *r)
+{
+    uint64_t object = number(c + 4, 4), version = number(c + 8, 4), a = number(r + 16, 4), b = number(r + 20, 4);
+    int slot = c[3], op = r[2];
     if (op <= 6 ? slot > 1 : slot < 2 || version != 0)
         return 1;
     if ((op == 1 || op == 2 || op == 6) && object == 0)
@@ -49,14 +49,16 @@ static inline int misfits(const uint8_t *c, const uint8_t *r)
         return 1;
     if (op == 5 && (a == 0 || b == 0))
         return 1;
-    if (op == 7 && (b != 0 || a > (slot == 2 ? 1 : slot == 3 ? 3 : 0)))
-        return 1;
-    return level < c[14] || (level == 0 && op == 7);
+    return op == 7 && (b != 0 || a > (slot == 2 ? 1u : slot == 3 ? 3u : 0u));
 }
+
+static inline int paper_row_7(const uint8_t *c, const uint8_t *r) { return r[3] < c[14] || (r[3] == 0 && r[2] == 7); }
 
 static inline int bad_records(const uint8_t *c, size_t c_len, const uint8_t *r, size_t r_len)
 {
-    return c_len != 36 || r_len != 28 || bad_fields(c, r) || misfits(c, r);
+    if (c_len != 36 || r_len != 28)
+        return 1;
+    return paper_row_3(c, r) || paper_row_4(c, r) || paper_row_5(r) || paper_row_6(c, r) || paper_row_7(c, r);
 }
 
 static inline uint64_t paper_build(const uint8_t *c, size_t c_len, const uint8_t *r, size_t r_len, size_t n, size_t key_len, size_t space_len)
@@ -73,7 +75,7 @@ static inline uint32_t paper_result(const uint8_t *r)
 {
     switch (r[2]) {
     case 1:
-        return number(r + 20, 4);
+        return (uint32_t)number(r + 20, 4);
     case 3:
         return 8;
     case 4:
@@ -88,7 +90,8 @@ static inline uint32_t paper_result(const uint8_t *r)
 static inline void paper_digest(const uint8_t *key, const uint8_t *c, const uint8_t *r, const uint8_t *more, size_t n, uint8_t out[32])
 {
     uint8_t *all = malloc(64 + n);
-    MUST(all);
+    if (!all)
+        abort();
     memcpy(all, c, 36);
     memcpy(all + 36, r, 28);
     if (n)
@@ -103,7 +106,7 @@ static inline size_t paper_reply(const uint8_t *key, const uint8_t *c, const uin
     put_number(reply, 2, 0x4c41);
     reply[2] = r[2];
     reply[3] = r[3];
-    put_number(reply + 4, 4, (uint32_t)n);
+    put_number(reply + 4, 4, n);
     if (r[3] != 2)
         return 8 + n;
     paper_digest(key, c, r, reply, 8 + n, reply + 8 + n);

@@ -1,0 +1,420 @@
+/* What document 01 says of format and gate, in plain C over the record of sievelast_store.h, and written from the paper: what each
+ * call must answer and leave behind, from any record, sound or not. */
+#ifndef TESTS_PAPER_DRIVE_H
+#define TESTS_PAPER_DRIVE_H
+#include "paper.h"
+#include "sievelast_store.h"
+
+/* ---- the record's form: a partition's table, and its keys */
+enum {
+    VERSION_AT,
+    LAST_AT,
+    COUNT_AT,
+    NUMBERS_AT,
+    VERSIONS_AT = NUMBERS_AT + SIEVELAST_MOST_OBJECTS,
+    SIZES_AT = VERSIONS_AT + SIEVELAST_MOST_OBJECTS,
+    STARTS_AT = SIZES_AT + SIEVELAST_MOST_OBJECTS,
+    TABLE_NUMBERS = STARTS_AT + SIEVELAST_MOST_OBJECTS,
+    DRIVE_KEY = 12, /* after four working keys 0, four working keys 1 and four partition keys */
+    MASTER_KEY = 13,
+    KEY_COUNT = 14,
+    FLAGS_AT = KEY_COUNT * SIEVELAST_KEY_BYTES
+};
+
+static inline int key_place(int slot, int partition) { return slot < 3 ? 4 * slot + partition : slot == 3 ? DRIVE_KEY : MASTER_KEY; }
+
+/* The place of the key that operation 7 sets. */
+static inline int target_place(int slot, int partition, int a) { return slot == 4 ? DRIVE_KEY : slot == 3 ? 8 + a : 4 * a + partition; }
+
+static inline uint8_t *key_at(struct sievelast_drive *d, int place) { return d->keys + place * SIEVELAST_KEY_BYTES; }
+
+static inline uint32_t *table_of(struct sievelast_drive *d, int partition) { return d->tables + partition * TABLE_NUMBERS; }
+
+static inline uint64_t quarter_of(const struct sievelast_drive *d) { return d->size / 4; }
+
+/* The place of an object in its table, or its count where it is not there. */
+static inline uint32_t find_object(const uint32_t *t, uint32_t object)
+{
+    uint32_t i = 0;
+    while (i < t[COUNT_AT] && t[NUMBERS_AT + i] != object)
+        i++;
+    return i;
+}
+
+/* ---- row 1 */
+static inline uint64_t end_of(const uint32_t *t, uint32_t i) { return (uint64_t)t[STARTS_AT + i] + t[SIZES_AT + i]; }
+
+static inline int object_apart(const uint32_t *t, uint32_t i)
+{
+    for (uint32_t j = 0; j < i; j++)
+        if (t[NUMBERS_AT + j] == t[NUMBERS_AT + i] || (t[STARTS_AT + j] < end_of(t, i) && t[STARTS_AT + i] < end_of(t, j)))
+            return 0;
+    return 1;
+}
+
+static inline int sound_table(const uint32_t *t, uint64_t quarter)
+{
+    if (t[COUNT_AT] > SIEVELAST_MOST_OBJECTS)
+        return 0;
+    for (uint32_t i = 0; i < t[COUNT_AT]; i++) {
+        int inside = t[NUMBERS_AT + i] >= 1 && t[SIZES_AT + i] >= 1 && end_of(t, i) <= quarter && t[VERSIONS_AT + i] <= t[LAST_AT];
+        if (!inside || !object_apart(t, i))
+            return 0;
+    }
+    return 1;
+}
+
+static inline int paper_sound(struct sievelast_drive *d)
+{
+    int sound = d->size <= SIEVELAST_MOST_MEDIUM_BYTES;
+    for (int p = 0; p < SIEVELAST_PARTITIONS; p++)
+        sound = sound && sound_table(table_of(d, p), quarter_of(d));
+    for (int m = 0; m < SIEVELAST_MEMORIES; m++)
+        sound = sound && d->lengths[m] <= SIEVELAST_MOST_ENTRIES;
+    return sound;
+}
+
+/* ---- the replay memories */
+static inline void move_entry(struct sievelast_drive *d, size_t to, size_t from)
+{
+    d->slots[to] = d->slots[from];
+    d->holders[to] = d->holders[from];
+    d->times[to] = d->times[from];
+    d->counts[to] = d->counts[from];
+}
+
+/* T + 5,000 is under the mark; the sum may pass 64 bits. */
+static inline int outlived(uint64_t time, uint64_t mark) { return mark >= SIEVELAST_TIME_WINDOW && time < mark - SIEVELAST_TIME_WINDOW; }
+
+static inline void drop_outlived(struct sievelast_drive *d, int memory)
+{
+    size_t first = (size_t)memory * SIEVELAST_MOST_ENTRIES, kept = 0;
+    for (size_t i = 0; i < d->lengths[memory]; i++)
+        if (!outlived(d->times[first + i], d->highwater))
+            move_entry(d, first + kept++, first + i);
+    d->lengths[memory] = kept;
+}
+
+/* ---- a frame's fields, read where the paper has them */
+struct paper_call {
+    const uint8_t *c, *r, *data; /* credential, request, data */
+    uint64_t time, expiry, sum;  /* sum: A + B */
+    uint32_t object, version, first, end, holder, count, a, b, n;
+    int partition, slot, rights, operation, level, memory;
+};
+
+static inline struct paper_call paper_call_of(const uint8_t *frame)
+{
+    const uint8_t *c = frame, *r = frame + SIEVELAST_CREDENTIAL_BYTES;
+    struct paper_call q = {c, r, r + SIEVELAST_REQUEST_BYTES, number(r + 4, 8), number(c + 24, 8), number(r + 16, 4) + number(r + 20, 4),
+                           (uint32_t)number(c + 4, 4), (uint32_t)number(c + 8, 4), (uint32_t)number(c + 16, 4), (uint32_t)number(c + 20, 4),
+                           (uint32_t)number(c + 32, 4), (uint32_t)number(r + 12, 4), (uint32_t)number(r + 16, 4), (uint32_t)number(r + 20, 4),
+                           (uint32_t)number(r + 24, 4), c[2], c[3], (int)number(c + 12, 2), r[2], r[3], c[3] < 3 ? c[2] : 4};
+    return q;
+}
+
+/* The credential key, from the key that the record has in the credential's slot. */
+static inline void credential_key(struct sievelast_drive *d, const struct paper_call *q, uint8_t out[32])
+{
+    test_hmac(key_at(d, key_place(q->slot, q->partition)), 32, q->c, SIEVELAST_CREDENTIAL_BYTES, out);
+}
+
+/* The digest that the frame must carry. */
+static inline void frame_digest(struct sievelast_drive *d, const struct paper_call *q, uint8_t out[32])
+{
+    uint8_t key[32];
+    credential_key(d, q, key);
+    paper_digest(key, q->c, q->r, q->data, q->level ? q->n : 0, out);
+}
+
+/* ---- rows 2 to 23, the mark being this call's */
+static inline uint64_t row_2_to_7(const uint8_t *frame, size_t frame_len)
+{
+    const uint8_t *c = frame, *r = frame + SIEVELAST_CREDENTIAL_BYTES;
+    if (frame_len < SIEVELAST_LEAST_FRAME_BYTES)
+        return 2;
+    if (paper_row_3(c, r))
+        return 3;
+    if (paper_row_4(c, r))
+        return 4;
+    if (paper_row_5(r) || frame_len != SIEVELAST_LEAST_FRAME_BYTES + number(r + 24, 4))
+        return 5;
+    return paper_row_6(c, r) ? 6 : paper_row_7(c, r) ? 7 : 0;
+}
+
+static inline int replayed(const struct sievelast_drive *d, const struct paper_call *q)
+{
+    size_t first = (size_t)q->memory * SIEVELAST_MOST_ENTRIES;
+    for (size_t i = first; i < first + d->lengths[q->memory]; i++)
+        if (d->slots[i] == q->slot && d->holders[i] == q->holder && d->times[i] == q->time && d->counts[i] == q->count)
+            return 1;
+    return 0;
+}
+
+static inline uint64_t row_8_to_13(struct sievelast_drive *d, const struct paper_call *q)
+{
+    uint8_t digest[32];
+    uint64_t mark = d->highwater;
+    if (!d->keys[FLAGS_AT + key_place(q->slot, q->partition)])
+        return 8;
+    frame_digest(d, q, digest);
+    if (memcmp(digest, q->data + q->n, sizeof digest))
+        return 9;
+    if (mark > q->expiry)
+        return 10;
+    if (outlived(q->time, mark) || (q->time > mark && q->time - mark > SIEVELAST_TIME_WINDOW))
+        return 11;
+    if (replayed(d, q))
+        return 12;
+    return q->rights >> (q->operation - 1) & 1 ? 0 : 13;
+}
+
+static inline uint64_t row_14_to_17(const uint32_t *t, const struct paper_call *q)
+{
+    uint32_t i = find_object(t, q->object);
+    if (q->object && i == t[COUNT_AT])
+        return 14;
+    if (q->operation <= 6 && q->version != (q->object ? t[VERSIONS_AT + i] : t[VERSION_AT]))
+        return 15;
+    if (q->operation > 2)
+        return 0;
+    if (q->first > q->a || q->sum > q->end)
+        return 16;
+    return q->sum > t[SIZES_AT + i] ? 17 : 0;
+}
+
+/* Where the run of free bytes that starts at `from` ends: the quarter's end, or the next area's start, which is `from` itself where
+ * that byte is in an area. */
+static inline uint64_t gap_end(const uint32_t *t, uint64_t quarter, uint64_t from)
+{
+    uint64_t end = quarter;
+    for (uint32_t i = 0; i < t[COUNT_AT]; i++)
+        if (end_of(t, i) > from && t[STARTS_AT + i] < end)
+            end = t[STARTS_AT + i] > from ? t[STARTS_AT + i] : from;
+    return end;
+}
+
+#define NOWHERE UINT64_MAX
+
+/* Create's area starts at the start of the smallest gap of at least b bytes, lowest start among equals. A gap starts at 0 or where an
+ * area ends. */
+static inline uint64_t new_start(const uint32_t *t, uint64_t quarter, uint32_t b)
+{
+    uint64_t best = NOWHERE, length = NOWHERE;
+    for (uint32_t i = 0; i <= t[COUNT_AT]; i++) {
+        uint64_t from = i < t[COUNT_AT] ? end_of(t, i) : 0, free_bytes = gap_end(t, quarter, from) - from;
+        if (free_bytes >= b && (free_bytes < length || (free_bytes == length && from < best)))
+            best = from, length = free_bytes;
+    }
+    return best;
+}
+
+static inline uint64_t row_18_to_21(const uint32_t *t, uint64_t quarter, const struct paper_call *q)
+{
+    int creates = q->operation == 5;
+    if (creates && find_object(t, q->a) < t[COUNT_AT])
+        return 18;
+    if (creates && t[COUNT_AT] == SIEVELAST_MOST_OBJECTS)
+        return 19;
+    if (creates && new_start(t, quarter, q->b) == NOWHERE)
+        return 20;
+    return (creates || q->operation == 4) && t[LAST_AT] == UINT32_MAX ? 21 : 0;
+}
+
+static inline size_t reply_length(const struct paper_call *q)
+{
+    return SIEVELAST_REPLY_HEAD_BYTES + (size_t)paper_result(q->r) + (q->level == 2 ? SIEVELAST_DIGEST_BYTES : 0);
+}
+
+static inline uint64_t row_8_to_23(struct sievelast_drive *d, const struct paper_call *q, size_t reply_len)
+{
+    uint64_t row = row_8_to_13(d, q);
+    if (!row)
+        row = row_14_to_17(table_of(d, q->partition), q);
+    if (!row)
+        row = row_18_to_21(table_of(d, q->partition), quarter_of(d), q);
+    if (!row && d->lengths[q->memory] == SIEVELAST_MOST_ENTRIES)
+        row = 22;
+    return !row && reply_len < reply_length(q) ? 23 : row;
+}
+
+/* ---- a grant: each operation's part, its result put behind the reply's head */
+static inline void grant_bytes(struct sievelast_drive *d, uint8_t *medium, const struct paper_call *q, uint8_t *result)
+{
+    uint32_t *t = table_of(d, q->partition), i = find_object(t, q->object);
+    uint8_t *at = medium + (size_t)q->partition * quarter_of(d) + t[STARTS_AT + i] + q->a;
+    if (q->b == 0)
+        return;
+    if (q->operation == 1)
+        memcpy(result, at, q->b);
+    else
+        memcpy(at, q->data, q->b);
+}
+
+static inline void grant_look(struct sievelast_drive *d, const struct paper_call *q, uint8_t *result)
+{
+    uint32_t *t = table_of(d, q->partition), i = find_object(t, q->object);
+    put_number(result, 4, q->object ? t[SIZES_AT + i] : quarter_of(d));
+    put_number(result + 4, 4, q->object ? t[VERSIONS_AT + i] : t[VERSION_AT]);
+}
+
+static inline void grant_raise(struct sievelast_drive *d, const struct paper_call *q, uint8_t *result)
+{
+    uint32_t *t = table_of(d, q->partition);
+    t[LAST_AT]++;
+    t[q->object ? VERSIONS_AT + find_object(t, q->object) : VERSION_AT] = t[LAST_AT];
+    put_number(result, 4, t[LAST_AT]);
+}
+
+static inline void grant_create(struct sievelast_drive *d, uint8_t *medium, const struct paper_call *q, uint8_t *result)
+{
+    uint32_t *t = table_of(d, q->partition), i = t[COUNT_AT];
+    uint64_t start = new_start(t, quarter_of(d), q->b);
+    memset(medium + (size_t)q->partition * quarter_of(d) + start, 0, q->b);
+    t[LAST_AT]++;
+    t[NUMBERS_AT + i] = q->a;
+    t[VERSIONS_AT + i] = t[LAST_AT];
+    t[SIZES_AT + i] = q->b;
+    t[STARTS_AT + i] = (uint32_t)start;
+    t[COUNT_AT]++;
+    put_number(result, 4, t[LAST_AT]);
+}
+
+static inline void grant_delete(struct sievelast_drive *d, const struct paper_call *q)
+{
+    uint32_t *t = table_of(d, q->partition);
+    t[COUNT_AT]--;
+    for (uint32_t i = find_object(t, q->object); i < t[COUNT_AT]; i++)
+        for (int list = NUMBERS_AT; list < TABLE_NUMBERS; list += SIEVELAST_MOST_OBJECTS)
+            t[list + i] = t[list + i + 1];
+}
+
+static inline void grant_key(struct sievelast_drive *d, const struct paper_call *q)
+{
+    int place = target_place(q->slot, q->partition, (int)q->a);
+    uint8_t new_key[32];
+    test_hmac(key_at(d, key_place(q->slot, q->partition)), 32, q->r, SIEVELAST_REQUEST_BYTES + SIEVELAST_SEED_BYTES, new_key);
+    memcpy(key_at(d, place), new_key, sizeof new_key);
+    d->keys[FLAGS_AT + place] = 1;
+}
+
+static inline size_t paper_grant(struct sievelast_drive *d, uint8_t *medium, const struct paper_call *q, uint8_t *reply)
+{
+    uint8_t key[32], *result = reply + SIEVELAST_REPLY_HEAD_BYTES;
+    size_t place = (size_t)q->memory * SIEVELAST_MOST_ENTRIES + d->lengths[q->memory]++;
+    credential_key(d, q, key);
+    if (q->operation <= 2)
+        grant_bytes(d, medium, q, result);
+    else if (q->operation == 3)
+        grant_look(d, q, result);
+    else if (q->operation == 4)
+        grant_raise(d, q, result);
+    else if (q->operation == 5)
+        grant_create(d, medium, q, result);
+    else if (q->operation == 6)
+        grant_delete(d, q);
+    else
+        grant_key(d, q);
+    d->slots[place] = (uint8_t)q->slot;
+    d->holders[place] = q->holder;
+    d->times[place] = q->time;
+    d->counts[place] = q->count;
+    return paper_reply(key, q->c, q->r, reply, paper_result(q->r));
+}
+
+/* ---- the two calls */
+static inline struct sievelast_answered paper_gate(struct sievelast_drive *d, uint8_t *medium, size_t medium_len, const uint8_t *frame,
+                                                   size_t frame_len, uint64_t clock, uint8_t *reply, size_t reply_len)
+{
+    struct sievelast_answered a = {1, 0};
+    if (!paper_sound(d) || medium_len != d->size)
+        return a;
+    if (clock > d->highwater)
+        d->highwater = clock;
+    for (int m = 0; m < SIEVELAST_MEMORIES; m++)
+        drop_outlived(d, m);
+    a.row = row_2_to_7(frame, frame_len);
+    if (a.row)
+        return a;
+    struct paper_call q = paper_call_of(frame);
+    a.row = row_8_to_23(d, &q, reply_len);
+    if (!a.row)
+        a.length = paper_grant(d, medium, &q, reply);
+    return a;
+}
+
+static inline uint64_t paper_format(struct sievelast_drive *d, uint8_t *medium, size_t medium_len, uint32_t first, const uint8_t *master,
+                                    size_t master_len, const uint8_t *key, size_t key_len)
+{
+    memset(d, 0, sizeof *d);
+    if (medium_len > SIEVELAST_MOST_MEDIUM_BYTES)
+        return 24;
+    if (first == 0)
+        return 25;
+    if (master_len != SIEVELAST_KEY_BYTES || key_len != SIEVELAST_KEY_BYTES)
+        return 26;
+    if (medium_len)
+        memset(medium, 0, medium_len);
+    d->size = medium_len;
+    memcpy(key_at(d, MASTER_KEY), master, SIEVELAST_KEY_BYTES);
+    memcpy(key_at(d, DRIVE_KEY), key, SIEVELAST_KEY_BYTES);
+    d->keys[FLAGS_AT + MASTER_KEY] = d->keys[FLAGS_AT + DRIVE_KEY] = 1;
+    for (int p = 0; p < SIEVELAST_PARTITIONS; p++)
+        table_of(d, p)[VERSION_AT] = table_of(d, p)[LAST_AT] = first;
+    return 0;
+}
+
+/* ---- two records compared. What stands behind a table's count, behind a memory's length or in a key that is not set says nothing. */
+static inline int same_key(struct sievelast_drive *a, struct sievelast_drive *b, int place)
+{
+    int set = a->keys[FLAGS_AT + place] != 0;
+    return set == (b->keys[FLAGS_AT + place] != 0) && (!set || !memcmp(key_at(a, place), key_at(b, place), SIEVELAST_KEY_BYTES));
+}
+
+static inline int same_table(const uint32_t *a, const uint32_t *b)
+{
+    int same = a[VERSION_AT] == b[VERSION_AT] && a[LAST_AT] == b[LAST_AT] && a[COUNT_AT] == b[COUNT_AT];
+    size_t n = a[COUNT_AT] < SIEVELAST_MOST_OBJECTS ? a[COUNT_AT] : SIEVELAST_MOST_OBJECTS;
+    for (int list = NUMBERS_AT; list < TABLE_NUMBERS; list += SIEVELAST_MOST_OBJECTS)
+        same = same && !memcmp(a + list, b + list, n * sizeof *a);
+    return same;
+}
+
+/* The first n entries of a memory. */
+static inline int same_entries(const struct sievelast_drive *a, const struct sievelast_drive *b, int memory, size_t n)
+{
+    size_t i = (size_t)memory * SIEVELAST_MOST_ENTRIES;
+    return a->lengths[memory] == b->lengths[memory] && !memcmp(a->slots + i, b->slots + i, n) &&
+           !memcmp(a->holders + i, b->holders + i, n * sizeof *a->holders) && !memcmp(a->times + i, b->times + i, n * sizeof *a->times) &&
+           !memcmp(a->counts + i, b->counts + i, n * sizeof *a->counts);
+}
+
+/* Whether a sound record is what it must be after a call that found it as `before`: NULL, or what differs. A key, table or memory
+ * that the call does not change keeps every byte. */
+static inline const char *record_difference(struct sievelast_drive *before, struct sievelast_drive *right, struct sievelast_drive *found)
+{
+    if (found->size != right->size)
+        return "the size";
+    if (found->highwater != right->highwater)
+        return "the mark";
+    for (int k = 0; k < KEY_COUNT; k++) {
+        int keeps = !memcmp(key_at(before, k), key_at(right, k), SIEVELAST_KEY_BYTES) && before->keys[FLAGS_AT + k] == right->keys[FLAGS_AT + k];
+        if (!same_key(right, found, k) || (keeps && memcmp(key_at(before, k), key_at(found, k), SIEVELAST_KEY_BYTES)) ||
+            (keeps && before->keys[FLAGS_AT + k] != found->keys[FLAGS_AT + k]))
+            return "a key";
+    }
+    for (int p = 0; p < SIEVELAST_PARTITIONS; p++) {
+        size_t bytes = TABLE_NUMBERS * sizeof(uint32_t);
+        int keeps = !memcmp(table_of(before, p), table_of(right, p), bytes);
+        if (!same_table(table_of(right, p), table_of(found, p)) || (keeps && memcmp(table_of(before, p), table_of(found, p), bytes)))
+            return "a table";
+    }
+    for (int m = 0; m < SIEVELAST_MEMORIES; m++) {
+        int keeps = same_entries(before, right, m, SIEVELAST_MOST_ENTRIES);
+        size_t n = right->lengths[m] < SIEVELAST_MOST_ENTRIES ? right->lengths[m] : SIEVELAST_MOST_ENTRIES;
+        if (!same_entries(right, found, m, keeps ? SIEVELAST_MOST_ENTRIES : n))
+            return "a replay memory";
+    }
+    return NULL;
+}
+#endif
