@@ -1,13 +1,16 @@
-/* Facts that a test expects, counted. One that does not hold is printed with its line, and what the test says of the case; of many
- * the first PRINTED. */
+/* Facts that a test expects, counted. One that does not hold is printed with its line, with what is under way, and with what the test
+ * says of the case; of many the first PRINTED. */
 #ifndef TESTS_EXPECT_H
 #define TESTS_EXPECT_H
+#include <inttypes.h>
+#include <stdint.h>
 #include <stdio.h>
 
 enum { PRINTED = 20 };
 
 static int failures;
 static int checks;
+static char under_way[120]; /* printed with a failure */
 
 /* Does it hold? If not, and if it is to be printed, there is more to say of it. */
 static inline int expect(int ok, const char *what, int line)
@@ -16,7 +19,7 @@ static inline int expect(int ok, const char *what, int line)
     failures += !ok;
     if (ok || failures > PRINTED)
         return 1;
-    printf("line %d: %s\n", line, what);
+    printf("line %d: %s%s%s\n", line, what, *under_way ? "; " : "", under_way);
     return 0;
 }
 #define EXPECT(ok) (void)expect((ok) != 0, #ok, __LINE__)
@@ -29,6 +32,13 @@ static inline int expect(int ok, const char *what, int line)
             printf("\n");                          \
         }                                          \
     } while (0)
+
+static inline void expect_number(uint64_t found, uint64_t right, const char *what, int line)
+{
+    if (!expect(found == right, what, line))
+        printf("    is %" PRIu64 ", not %" PRIu64 "\n", found, right);
+}
+#define EXPECT_NUMBER(found, right) expect_number((uint64_t)(found), (uint64_t)(right), #found, __LINE__)
 
 /* The test's last line, and main's status. */
 static inline int expected(const char *test)

@@ -106,10 +106,25 @@ struct paper_call {
 static inline struct paper_call paper_call_of(const uint8_t *frame)
 {
     const uint8_t *c = frame, *r = frame + SIEVELAST_CREDENTIAL_BYTES;
-    struct paper_call q = {c, r, r + SIEVELAST_REQUEST_BYTES, number(r + 4, 8), number(c + 24, 8), number(r + 16, 4) + number(r + 20, 4),
-                           (uint32_t)number(c + 4, 4), (uint32_t)number(c + 8, 4), (uint32_t)number(c + 16, 4), (uint32_t)number(c + 20, 4),
-                           (uint32_t)number(c + 32, 4), (uint32_t)number(r + 12, 4), (uint32_t)number(r + 16, 4), (uint32_t)number(r + 20, 4),
-                           (uint32_t)number(r + 24, 4), c[2], c[3], (int)number(c + 12, 2), r[2], r[3], c[3] < 3 ? c[2] : 4};
+    struct paper_call q = {.c = c, .r = r, .data = r + SIEVELAST_REQUEST_BYTES};
+    q.partition = c[2];
+    q.slot = c[3];
+    q.object = (uint32_t)number(c + 4, 4);
+    q.version = (uint32_t)number(c + 8, 4);
+    q.rights = (int)number(c + 12, 2);
+    q.first = (uint32_t)number(c + 16, 4);
+    q.end = (uint32_t)number(c + 20, 4);
+    q.expiry = number(c + 24, 8);
+    q.holder = (uint32_t)number(c + 32, 4);
+    q.operation = r[2];
+    q.level = r[3];
+    q.time = number(r + 4, 8);
+    q.count = (uint32_t)number(r + 12, 4);
+    q.a = (uint32_t)number(r + 16, 4);
+    q.b = (uint32_t)number(r + 20, 4);
+    q.n = (uint32_t)number(r + 24, 4);
+    q.sum = (uint64_t)q.a + q.b;
+    q.memory = q.slot < 3 ? q.partition : 4;
     return q;
 }
 
@@ -130,9 +145,9 @@ static inline void frame_digest(struct sievelast_drive *d, const struct paper_ca
 /* ---- rows 2 to 23, the mark being this call's */
 static inline uint64_t row_2_to_7(const uint8_t *frame, size_t frame_len)
 {
-    const uint8_t *c = frame, *r = frame + SIEVELAST_CREDENTIAL_BYTES;
     if (frame_len < SIEVELAST_LEAST_FRAME_BYTES)
         return 2;
+    const uint8_t *c = frame, *r = frame + SIEVELAST_CREDENTIAL_BYTES;
     if (paper_row_3(c, r))
         return 3;
     if (paper_row_4(c, r))
@@ -389,32 +404,46 @@ static inline int same_entries(const struct sievelast_drive *a, const struct sie
            !memcmp(a->counts + i, b->counts + i, n * sizeof *a->counts);
 }
 
-/* Whether a sound record is what it must be after a call that found it as `before`: NULL, or what differs. A key, table or memory
- * that the call does not change keeps every byte. */
+/* A key, table or memory is what it must be after a call that found it as `before`; one that the call does not change keeps every byte. */
+static inline int key_right(struct sievelast_drive *before, struct sievelast_drive *right, struct sievelast_drive *found, int place)
+{
+    uint8_t *flags[] = {before->keys + FLAGS_AT + place, right->keys + FLAGS_AT + place, found->keys + FLAGS_AT + place};
+    int keeps = *flags[0] == *flags[1] && !memcmp(key_at(before, place), key_at(right, place), SIEVELAST_KEY_BYTES);
+    if (keeps)
+        return *flags[0] == *flags[2] && !memcmp(key_at(before, place), key_at(found, place), SIEVELAST_KEY_BYTES);
+    return same_key(right, found, place);
+}
+
+static inline int table_right(const uint32_t *before, const uint32_t *right, const uint32_t *found)
+{
+    size_t bytes = TABLE_NUMBERS * sizeof *found;
+    return memcmp(before, right, bytes) ? same_table(right, found) : !memcmp(before, found, bytes);
+}
+
+static inline int memory_right(const struct sievelast_drive *before, const struct sievelast_drive *right, const struct sievelast_drive *found,
+                               int memory)
+{
+    if (same_entries(before, right, memory, SIEVELAST_MOST_ENTRIES))
+        return same_entries(before, found, memory, SIEVELAST_MOST_ENTRIES);
+    return right->lengths[memory] <= SIEVELAST_MOST_ENTRIES && same_entries(right, found, memory, right->lengths[memory]);
+}
+
+/* Whether a sound record is what it must be after a call: NULL, or what differs. */
 static inline const char *record_difference(struct sievelast_drive *before, struct sievelast_drive *right, struct sievelast_drive *found)
 {
     if (found->size != right->size)
-        return "the size";
+        return "the size differs";
     if (found->highwater != right->highwater)
-        return "the mark";
-    for (int k = 0; k < KEY_COUNT; k++) {
-        int keeps = !memcmp(key_at(before, k), key_at(right, k), SIEVELAST_KEY_BYTES) && before->keys[FLAGS_AT + k] == right->keys[FLAGS_AT + k];
-        if (!same_key(right, found, k) || (keeps && memcmp(key_at(before, k), key_at(found, k), SIEVELAST_KEY_BYTES)) ||
-            (keeps && before->keys[FLAGS_AT + k] != found->keys[FLAGS_AT + k]))
-            return "a key";
-    }
-    for (int p = 0; p < SIEVELAST_PARTITIONS; p++) {
-        size_t bytes = TABLE_NUMBERS * sizeof(uint32_t);
-        int keeps = !memcmp(table_of(before, p), table_of(right, p), bytes);
-        if (!same_table(table_of(right, p), table_of(found, p)) || (keeps && memcmp(table_of(before, p), table_of(found, p), bytes)))
-            return "a table";
-    }
-    for (int m = 0; m < SIEVELAST_MEMORIES; m++) {
-        int keeps = same_entries(before, right, m, SIEVELAST_MOST_ENTRIES);
-        size_t n = right->lengths[m] < SIEVELAST_MOST_ENTRIES ? right->lengths[m] : SIEVELAST_MOST_ENTRIES;
-        if (!same_entries(right, found, m, keeps ? SIEVELAST_MOST_ENTRIES : n))
-            return "a replay memory";
-    }
+        return "the mark differs";
+    for (int k = 0; k < KEY_COUNT; k++)
+        if (!key_right(before, right, found, k))
+            return "a key differs";
+    for (int p = 0; p < SIEVELAST_PARTITIONS; p++)
+        if (!table_right(table_of(before, p), table_of(right, p), table_of(found, p)))
+            return "a table differs";
+    for (int m = 0; m < SIEVELAST_MEMORIES; m++)
+        if (!memory_right(before, right, found, m))
+            return "a replay memory differs";
     return NULL;
 }
 #endif

@@ -69,7 +69,8 @@ static int format(void)
     give_back(&medium);
     medium = lend(m + BEHIND, records % 8);
     memset(medium.bytes, head[1], medium.length);
-    uint64_t row = sievelast_format(&drive, medium.bytes, m, (uint32_t)number(8, 4), head + MASTER_AT, master_len, head + KEY_AT, key_len);
+    uint64_t row = sievelast_format(&drive, medium.bytes, m, (uint32_t)number(8, 4), head + MASTER_AT, master_len, head + KEY_AT,
+                                    key_len);
     put_line(row, 0, NULL, 0);
     return 0;
 }
@@ -83,7 +84,8 @@ static int call(void)
     if (whole) {
         if (reply.length)
             memset(reply.bytes, head[1], reply.length);
-        struct sievelast_answered a = sievelast_gate(&drive, medium.bytes, lent_len, frame.bytes, frame.length, number(8, 8), reply.bytes, reply.length);
+        struct sievelast_answered a = sievelast_gate(&drive, medium.bytes, lent_len, frame.bytes, frame.length, number(8, 8),
+                                                     reply.bytes, reply.length);
         put_line(a.row, a.length, reply.bytes, reply.length);
     }
     give_back(&frame);

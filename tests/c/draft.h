@@ -1,0 +1,203 @@
+/* Calls drafted from a list of choices: an input's bytes, or random ones. A draft knows the record, takes its objects, versions, mark
+ * and keys, and is mostly one that no row refuses; then it may be spoiled, is signed, and may be spoiled once more. */
+#ifndef TESTS_DRAFT_H
+#define TESTS_DRAFT_H
+#include "paper_drive.h"
+
+enum {
+    DRAFT_DATA = 64, /* most bytes of a write */
+    DRAFT_REPLY = 1024, /* most bytes of a reply space */
+    DRAFT_FRAME = SIEVELAST_LEAST_FRAME_BYTES + DRAFT_DATA + 8
+};
+
+struct choices {
+    const uint8_t *at; /* the bytes, .. */
+    size_t left;       /* .. so many; then random ones, */
+    uint64_t state;    /* or only 0 where this is 0 */
+};
+
+static inline uint8_t choose_byte(struct choices *s)
+{
+    if (s->left) {
+        s->left--;
+        return *s->at++;
+    }
+    if (!s->state)
+        return 0;
+    s->state ^= s->state << 13;
+    s->state ^= s->state >> 7;
+    s->state ^= s->state << 17;
+    return (uint8_t)(s->state >> 32);
+}
+
+static inline uint64_t choose_number(struct choices *s, int width)
+{
+    uint64_t x = 0;
+    for (int i = 0; i < width; i++)
+        x = x << 8 | choose_byte(s);
+    return x;
+}
+
+/* A number below another, which is not 0. */
+static inline uint32_t choose(struct choices *s, uint64_t below)
+{
+    return (uint32_t)(choose_number(s, below <= 256 ? 1 : below <= 65536 ? 2 : 4) % below);
+}
+
+struct draft {
+    struct sievelast_credential who;
+    struct sievelast_request what;
+    uint64_t clock;
+    size_t length;
+    uint8_t frame[DRAFT_FRAME];
+};
+
+/* Slot, partition, object and its present version. */
+static inline void draft_who(struct draft *f, struct sievelast_drive *d, struct choices *s)
+{
+    int op = f->what.operation, named = op == SIEVELAST_READ || op == SIEVELAST_WRITE || op == SIEVELAST_DELETE;
+    struct sievelast_credential who = {UINT64_MAX, 0, 0, 0, UINT32_MAX, 0, SIEVELAST_EVERY_RIGHT, 0, 0, 0};
+    who.slot = (uint8_t)(op == SIEVELAST_SET_KEY ? 2 + choose(s, 3) : choose(s, 2));
+    who.partition = (uint8_t)(who.slot < 3 ? choose(s, SIEVELAST_PARTITIONS) : 0);
+    who.holder = choose(s, 4);
+    uint32_t *t = table_of(d, who.partition), n = t[COUNT_AT] < SIEVELAST_MOST_OBJECTS ? t[COUNT_AT] : SIEVELAST_MOST_OBJECTS;
+    if (op != SIEVELAST_SET_KEY)
+        who.version = t[VERSION_AT];
+    if (n && (named || ((op == SIEVELAST_LOOK || op == SIEVELAST_RAISE) && choose(s, 2)))) {
+        uint32_t i = choose(s, n);
+        who.object = t[NUMBERS_AT + i];
+        who.version = t[VERSIONS_AT + i];
+    } else if (named) {
+        who.object = 1;
+    }
+    f->who = who;
+}
+
+/* A clock reading near the mark, and a time near the mark that it makes: at the edges of row 11, or within. */
+static inline void draft_when(struct draft *f, const struct sievelast_drive *d, struct choices *s)
+{
+    static const int64_t off[] = {0, 0, 0, 1, -1, 5000, -5000, 5001, -5001, 2500, -2500, 0};
+    uint32_t clock = choose(s, 32);
+    f->clock = clock < 12 ? d->highwater + (uint64_t)off[clock] : clock < 24 ? d->highwater + choose(s, 100) : d->highwater;
+    if (clock == 31)
+        f->clock = choose_number(s, 8);
+    uint64_t mark = f->clock > d->highwater ? f->clock : d->highwater;
+    uint32_t time = choose(s, 24);
+    f->what.time = time < 12 ? mark + (uint64_t)off[time] : mark;
+    f->what.count = choose(s, 256);
+}
+
+/* A and B, and the data's length. */
+static inline void draft_what(struct draft *f, struct sievelast_drive *d, struct choices *s)
+{
+    uint32_t *t = table_of(d, f->who.partition), i = 0;
+    while (i + 1 < SIEVELAST_MOST_OBJECTS && t[NUMBERS_AT + i] != f->who.object)
+        i++;
+    uint64_t size = t[SIZES_AT + i] < 65536 ? t[SIZES_AT + i] : 65536;
+    struct sievelast_request *r = &f->what;
+    r->a = r->b = r->data_len = 0;
+    if (r->operation == SIEVELAST_READ || r->operation == SIEVELAST_WRITE) {
+        r->a = choose(s, size + 1);
+        r->b = choose(s, (size - r->a < DRAFT_DATA ? size - r->a : DRAFT_DATA) + 1);
+        r->data_len = r->operation == SIEVELAST_WRITE ? r->b : 0;
+    } else if (r->operation == SIEVELAST_CREATE) {
+        r->a = 1 + choose(s, 40);
+        r->b = 1 + choose(s, quarter_of(d) < 65536 ? quarter_of(d) / 4 + 1 : 65536);
+    } else if (r->operation == SIEVELAST_SET_KEY) {
+        r->a = choose(s, f->who.slot == 2 ? 2 : f->who.slot == 3 ? 4 : 1);
+        r->data_len = SIEVELAST_SEED_BYTES;
+        r->level += r->level == 0;
+    }
+}
+
+/* One field that a row from 7 to 20 is about, mostly none. */
+static inline void spoil_field(struct draft *f, const struct sievelast_drive *d, struct choices *s)
+{
+    struct sievelast_credential *who = &f->who;
+    struct sievelast_request *what = &f->what;
+    switch (choose(s, 40)) {
+    case 1: who->least = 2; break;
+    case 2: who->expiry = d->highwater; break;
+    case 3: who->expiry = f->clock - 1; break;
+    case 4: who->rights &= (uint16_t)~SIEVELAST_RIGHT(what->operation); break;
+    case 5: who->object++; break;
+    case 6: who->version++; break;
+    case 7: who->first = what->a + 1; break;
+    case 8: who->end = what->a + what->b - 1; break;
+    case 9: what->b += what->operation == SIEVELAST_READ ? 1 : 0; break;
+    case 10: what->a += 1; break;
+    case 11: what->b = (uint32_t)quarter_of(d) + 1; break;
+    case 12: who->slot = (uint8_t)choose(s, 5); break;
+    default: break;
+    }
+}
+
+/* The records' bytes as document 01 has them, without the library's encoders. */
+static inline void draft_records(struct draft *f)
+{
+    uint8_t *c = f->frame, *r = f->frame + SIEVELAST_CREDENTIAL_BYTES;
+    memset(f->frame, 0, sizeof f->frame);
+    put_number(c, 2, 0x4c43);
+    c[2] = f->who.partition;
+    c[3] = f->who.slot;
+    put_number(c + 4, 4, f->who.object);
+    put_number(c + 8, 4, f->who.version);
+    put_number(c + 12, 2, f->who.rights);
+    c[14] = f->who.least;
+    put_number(c + 16, 4, f->who.first);
+    put_number(c + 20, 4, f->who.end);
+    put_number(c + 24, 8, f->who.expiry);
+    put_number(c + 32, 4, f->who.holder);
+    put_number(r, 2, 0x4c52);
+    r[2] = f->what.operation;
+    r[3] = f->what.level;
+    put_number(r + 4, 8, f->what.time);
+    put_number(r + 12, 4, f->what.count);
+    put_number(r + 16, 4, f->what.a);
+    put_number(r + 20, 4, f->what.b);
+    put_number(r + 24, 4, f->what.data_len);
+}
+
+/* Signs the frame by the record's own keys, where its slot and partition name one. */
+static inline void draft_sign(struct draft *f, struct sievelast_drive *d)
+{
+    struct paper_call q = paper_call_of(f->frame);
+    if (q.slot <= 4 && q.partition <= 3 && q.n <= DRAFT_DATA)
+        frame_digest(d, &q, f->frame + f->length - SIEVELAST_DIGEST_BYTES);
+}
+
+/* A byte of the first n, changed; mostly none. */
+static inline void spoil_byte(struct draft *f, size_t n, struct choices *s)
+{
+    if (choose(s, 16) == 1)
+        f->frame[choose(s, n)] ^= (uint8_t)(1 + choose(s, 255));
+}
+
+static inline void draft_call(struct draft *f, struct sievelast_drive *d, struct choices *s)
+{
+    f->what.operation = (uint8_t)(1 + choose(s, 7));
+    f->what.level = (uint8_t)choose(s, 3);
+    draft_who(f, d, s);
+    draft_when(f, d, s);
+    draft_what(f, d, s);
+    spoil_field(f, d, s);
+    draft_records(f);
+    f->length = SIEVELAST_LEAST_FRAME_BYTES + f->what.data_len;
+    for (uint32_t i = 0; i < f->what.data_len; i++)
+        f->frame[64 + i] = (uint8_t)(f->what.count + 1 + 7 * i);
+    spoil_byte(f, 64, s);
+    draft_sign(f, d);
+    spoil_byte(f, f->length, s);
+    if (choose(s, 32) == 1)
+        f->length = choose(s, sizeof f->frame + 1);
+}
+
+/* How much reply space to lend: mostly what the request calls for and something more. */
+static inline size_t draft_space(const struct draft *f, struct choices *s)
+{
+    struct paper_call q = paper_call_of(f->frame);
+    size_t right = reply_length(&q) < DRAFT_REPLY - 256 ? reply_length(&q) : DRAFT_REPLY - 256;
+    uint32_t way = choose(s, 8);
+    return way == 1 ? right - 1 : way == 2 ? right : way == 3 ? choose(s, right) : right + choose(s, 200);
+}
+#endif

@@ -1,0 +1,633 @@
+/* The drive for C: format, gate, issuer and HMAC, by hand-made calls for every row and edge, and by records spoiled in every part.
+ * Each call of the gate is also put to document 01 in plain C (paper_drive.h), and everything that it left behind is compared.
+ *
+ *   store_test [ROUNDS]      so many rounds of spoiled records, and not the largest lengths; 400 rounds and all if left out */
+#include "draft.h"
+#include "expect.h"
+#include "lent.h"
+#include "sievelast.h"
+#include <stddef.h>
+
+enum {
+    MEDIUM = 1000, /* M */
+    QUARTER = MEDIUM / 4,
+    BESIDE = 16, /* bytes of the medium's buffer on either side of it */
+    REPLY = DRAFT_REPLY,
+    FILL = 0xee,
+    CLOCK = 100000,
+    OBJECT = 1, /* of partition 0; it has 20 bytes */
+    SIZE = 20
+};
+
+static struct sievelast_drive drive;
+static uint8_t buffer[BESIDE + MEDIUM + BESIDE], *const medium = buffer + BESIDE;
+static uint8_t master[SIEVELAST_KEY_BYTES], drive_key[SIEVELAST_KEY_BYTES], partition_key[SIEVELAST_KEY_BYTES], black[SIEVELAST_KEY_BYTES];
+static unsigned long answers[SIEVELAST_LAST_ROW + 1]; /* how often each row was the answer */
+
+static struct sievelast_answered answered(uint64_t row, uint64_t length)
+{
+    struct sievelast_answered a = {row, length};
+    if (row <= SIEVELAST_LAST_ROW)
+        answers[row]++;
+    return a;
+}
+
+/* ---- a call, compared with the paper's in everything that it may touch, and in the bytes beside */
+struct lending {
+    const uint8_t *frame;
+    size_t frame_len, reply_len, medium_len;
+    uint64_t clock;
+    size_t frame_off, reply_off; /* from the machine's alignment */
+};
+
+static struct lent filled(size_t length, size_t offset, const uint8_t *from)
+{
+    struct lent l = lend(length, offset);
+    for (size_t i = 0; i < length; i++)
+        l.bytes[i] = from ? from[i] : FILL;
+    return l;
+}
+
+static int same_bytes(const struct lent *a, const struct lent *b) { return !a->length || !memcmp(a->bytes, b->bytes, a->length); }
+
+static void record_as(struct sievelast_drive *before, struct sievelast_drive *right, uint64_t row)
+{
+    const char *differs = record_difference(before, right, &drive);
+    if (row == 1)
+        EXPECT(!memcmp(&drive, before, sizeof drive));
+    else
+        expect(!differs, differs ? differs : "the record", __LINE__);
+}
+
+static struct sievelast_answered put(struct lending l)
+{
+    struct sievelast_drive before = drive, right = drive;
+    static uint8_t right_buffer[sizeof buffer];
+    struct lent frame = filled(l.frame_len, l.frame_off, l.frame), reply = filled(l.reply_len, l.reply_off, NULL);
+    struct lent right_reply = filled(l.reply_len, 0, NULL);
+    memcpy(right_buffer, buffer, sizeof buffer);
+    struct sievelast_answered b =
+        paper_gate(&right, right_buffer + BESIDE, l.medium_len, l.frame, l.frame_len, l.clock, right_reply.bytes, l.reply_len);
+    struct sievelast_answered a =
+        sievelast_gate(&drive, medium, l.medium_len, frame.bytes, frame.length, l.clock, reply.bytes, reply.length);
+    EXPECT_NUMBER(a.row, b.row);
+    EXPECT_NUMBER(a.length, b.length);
+    EXPECT(same_bytes(&reply, &right_reply));
+    EXPECT(!memcmp(buffer, right_buffer, sizeof buffer));
+    EXPECT(!frame.length || !memcmp(frame.bytes, l.frame, frame.length));
+    record_as(&before, &right, b.row);
+    give_back(&frame), give_back(&reply), give_back(&right_reply);
+    return answered(a.row, a.length);
+}
+
+/* ---- hand-made frames: issuer, encoder and builder */
+static struct sievelast_credential who;
+static struct sievelast_request what;
+static uint8_t frame[SIEVELAST_LEAST_FRAME_BYTES + 300], seed[SIEVELAST_SEED_BYTES] = "sixteen bytes ..";
+static size_t frame_len;
+static uint32_t next_count;
+
+/* A frame of who and what, from the key of its slot; its count is a new one. */
+static void make(const uint8_t *slot_key, const uint8_t *data)
+{
+    uint8_t credential[SIEVELAST_CREDENTIAL_BYTES], request[SIEVELAST_REQUEST_BYTES];
+    what.count = next_count++;
+    struct sievelast_issued i = sievelast_issue(who, slot_key, SIEVELAST_KEY_BYTES, credential, sizeof credential);
+    EXPECT_NUMBER(i.row, 0);
+    EXPECT_NUMBER(sievelast_request_encode(what, request, sizeof request), 0);
+    struct sievelast_built b = sievelast_build(credential, sizeof credential, request, sizeof request, data, what.data_len, i.key,
+                                               SIEVELAST_KEY_BYTES, frame, sizeof frame);
+    EXPECT_NUMBER(b.row, 0);
+    frame_len = b.length;
+}
+
+static struct lending lending(void)
+{
+    struct lending l = {frame, frame_len, REPLY, MEDIUM, CLOCK, 0, 0};
+    return l;
+}
+
+static uint64_t row(void) { return put(lending()).row; }
+
+/* A request of partition 0 under working key 0 on an object, at the clock reading. */
+static void ask(int operation, uint32_t object, uint32_t version, uint32_t a, uint32_t b)
+{
+    struct sievelast_credential c = {CLOCK, object, version, 0, UINT32_MAX, 7, SIEVELAST_EVERY_RIGHT, 0, SIEVELAST_SLOT_BLACK, 0};
+    struct sievelast_request r = {CLOCK, 0, a, b, operation == SIEVELAST_WRITE ? b : 0, (uint8_t)operation, SIEVELAST_LEVEL_REPLY};
+    who = c;
+    what = r;
+}
+
+/* Operation 7 under a slot's key; the new key, as the manager knows it. */
+static void set_key(uint8_t slot, uint32_t a, const uint8_t *slot_key, uint8_t new_key[SIEVELAST_KEY_BYTES])
+{
+    uint8_t message[SIEVELAST_REQUEST_BYTES + SIEVELAST_SEED_BYTES];
+    ask(SIEVELAST_SET_KEY, 0, 0, a, 0);
+    who.slot = slot;
+    what.data_len = sizeof seed;
+    make(slot_key, seed);
+    EXPECT_NUMBER(row(), 0);
+    sievelast_request_encode(what, message, sizeof message);
+    memcpy(message + SIEVELAST_REQUEST_BYTES, seed, sizeof seed);
+    struct sievelast_digest h = sievelast_hmac(slot_key, SIEVELAST_KEY_BYTES, message, sizeof message);
+    EXPECT_NUMBER(h.row, 0);
+    memcpy(new_key, h.bytes, SIEVELAST_KEY_BYTES);
+}
+
+static uint64_t format(size_t medium_len, uint32_t first, size_t master_len, size_t key_len)
+{
+    struct sievelast_drive right;
+    static uint8_t right_buffer[sizeof buffer];
+    memcpy(right_buffer, buffer, sizeof buffer);
+    uint64_t right_row = paper_format(&right, right_buffer + BESIDE, medium_len, first, master, master_len, drive_key, key_len);
+    uint64_t found = sievelast_format(&drive, medium, medium_len, first, master, master_len, drive_key, key_len);
+    const char *differs = record_difference(&right, &right, &drive);
+    EXPECT_NUMBER(found, right_row);
+    EXPECT(!memcmp(buffer, right_buffer, sizeof buffer));
+    expect(!differs, differs ? differs : "the record", __LINE__);
+    return answered(found, 0).row;
+}
+
+/* A drive with a partition key, working key 0 and one object, of version `first` + 1, which a write fills. */
+static void ready(uint32_t first)
+{
+    memset(buffer, FILL, sizeof buffer);
+    EXPECT_NUMBER(format(MEDIUM, first, SIEVELAST_KEY_BYTES, SIEVELAST_KEY_BYTES), 0);
+    set_key(SIEVELAST_SLOT_DRIVE, 0, drive_key, partition_key);
+    set_key(SIEVELAST_SLOT_PARTITION, 0, partition_key, black);
+    if (first == UINT32_MAX)
+        return;
+    ask(SIEVELAST_CREATE, 0, first, OBJECT, SIZE), make(black, NULL), EXPECT_NUMBER(row(), 0);
+    ask(SIEVELAST_WRITE, OBJECT, first + 1, 0, SIZE), make(black, (const uint8_t *)"log 4711, 312 mm top"), EXPECT_NUMBER(row(), 0);
+}
+
+static void ask_read(uint32_t a, uint32_t b) { ask(SIEVELAST_READ, OBJECT, 2, a, b); }
+
+/* The frame at hand with one byte changed, to a value or by an exclusive or. */
+static uint64_t row_with(size_t at, uint8_t value)
+{
+    uint8_t kept = frame[at];
+    frame[at] = value;
+    uint64_t r = row();
+    frame[at] = kept;
+    return r;
+}
+
+/* ---- rows 2 to 9, by bytes of a frame that is granted otherwise */
+static void rows_of_the_frame(void)
+{
+    static const struct { uint64_t row; uint8_t at, value; } cases[] = {
+        {3, 0, 0x4d}, {3, 1, 0}, {3, 36, 0}, {3, 37, 0x43}, /* marks */
+        {4, 2, 4}, {4, 3, 5}, {4, 12, 1}, {4, 13, 0xff}, {4, 14, 3}, {4, 15, 1}, {4, 38, 0}, {4, 38, 8}, {4, 39, 3}, {4, 60, 1},
+        {5, 63, 1}, {5, 38, SIEVELAST_WRITE}, {5, 38, SIEVELAST_SET_KEY}, /* the data's length */
+        {6, 3, SIEVELAST_SLOT_PARTITION}, {6, 7, 0}, {6, 38, SIEVELAST_CREATE}, {6, 38, SIEVELAST_LOOK}, {6, 38, SIEVELAST_DELETE},
+        {8, 3, SIEVELAST_SLOT_GOLD}, {8, 2, 3}, /* keys that nobody set */
+        {9, 0 + 7, 9}, {9, 36 + 11, 1}, {9, 64, 0}, {9, 95, 0},
+    };
+    ready(1);
+    ask_read(4, 8);
+    make(black, NULL);
+    for (size_t i = 0; i < sizeof cases / sizeof *cases; i++) {
+        snprintf(under_way, sizeof under_way, "byte %d is %d", cases[i].at, cases[i].value);
+        uint8_t value = cases[i].row == 9 && cases[i].at >= 64 ? (uint8_t)~frame[cases[i].at] : cases[i].value;
+        EXPECT_NUMBER(row_with(cases[i].at, value), cases[i].row);
+    }
+    *under_way = 0;
+    frame[2] = 1;
+    EXPECT_NUMBER(row_with(3, SIEVELAST_SLOT_DRIVE), 4); /* slot 3 carries partition 0 */
+    frame[2] = 0;
+    EXPECT_NUMBER(row_with(39, SIEVELAST_LEVEL_RECORDS), 9);
+    frame[14] = SIEVELAST_LEVEL_REPLY;
+    EXPECT_NUMBER(row_with(39, SIEVELAST_LEVEL_DATA), 7);
+    frame[14] = 0;
+    EXPECT_NUMBER(row(), 0);
+    EXPECT_NUMBER(row(), 12);
+}
+
+static void frame_lengths(void)
+{
+    struct lending l;
+    ready(1);
+    ask_read(4, 8);
+    make(black, NULL);
+    l = lending();
+    l.frame_len = SIEVELAST_LEAST_FRAME_BYTES - 1, EXPECT_NUMBER(put(l).row, 2);
+    l.frame_len = 0, EXPECT_NUMBER(put(l).row, 2);
+    l.frame = NULL, EXPECT_NUMBER(put(l).row, 2);
+    l = lending();
+    l.frame_len++, EXPECT_NUMBER(put(l).row, 5);
+    l = lending();
+    l.medium_len = MEDIUM - 1, EXPECT_NUMBER(put(l).row, 1);
+    l.medium_len = MEDIUM + 1, EXPECT_NUMBER(put(l).row, 1);
+    l.medium_len = 0, EXPECT_NUMBER(put(l).row, 1);
+    EXPECT_NUMBER(sievelast_gate(&drive, NULL, 0, NULL, 0, CLOCK, NULL, 0).row, 1);
+    EXPECT_NUMBER(row(), 0);
+    /* setting a key needs level 1; the builder would not make such a frame */
+    ask(SIEVELAST_SET_KEY, 0, 0, 1, 0);
+    who.slot = SIEVELAST_SLOT_PARTITION;
+    what.data_len = sizeof seed;
+    make(partition_key, seed);
+    EXPECT_NUMBER(row_with(39, SIEVELAST_LEVEL_RECORDS), 7);
+    EXPECT_NUMBER(row(), 0);
+}
+
+/* ---- rows 10 to 18 and 20, each by one field of a read or create that is granted without it */
+static uint64_t read_row(uint32_t a, uint32_t b, uint32_t first, uint32_t end)
+{
+    ask_read(a, b);
+    who.first = first;
+    who.end = end;
+    make(black, NULL);
+    return row();
+}
+
+static void rows_of_the_fields(void)
+{
+    ready(1);
+    ask_read(0, 4), who.expiry = CLOCK - 1, make(black, NULL), EXPECT_NUMBER(row(), 10);
+    ask_read(0, 4), what.time = CLOCK - 5001, make(black, NULL), EXPECT_NUMBER(row(), 11);
+    ask_read(0, 4), what.time = CLOCK + 5001, make(black, NULL), EXPECT_NUMBER(row(), 11);
+    ask_read(0, 4), what.time = CLOCK - 5000, make(black, NULL), EXPECT_NUMBER(row(), 0);
+    ask_read(0, 4), what.time = CLOCK + 5000, make(black, NULL), EXPECT_NUMBER(row(), 0);
+    EXPECT_NUMBER(row(), 12);
+    for (int op = SIEVELAST_READ; op <= SIEVELAST_DELETE; op++) {
+        uint32_t creates = op == SIEVELAST_CREATE;
+        ask(op, creates ? 0 : OBJECT, creates ? 1 : 2, creates, creates);
+        who.rights = (uint16_t)(SIEVELAST_EVERY_RIGHT & ~SIEVELAST_RIGHT(op));
+        make(black, NULL), EXPECT_NUMBER(row(), 13);
+    }
+    ask(SIEVELAST_READ, 9, 2, 0, 4), make(black, NULL), EXPECT_NUMBER(row(), 14);
+    ask(SIEVELAST_READ, OBJECT, 1, 0, 4), make(black, NULL), EXPECT_NUMBER(row(), 15);
+    ask(SIEVELAST_LOOK, 0, 2, 0, 0), make(black, NULL), EXPECT_NUMBER(row(), 15);
+    EXPECT_NUMBER(read_row(8, 8, 8, 16), 0);
+    EXPECT_NUMBER(read_row(16, 0, 8, 16), 0);
+    EXPECT_NUMBER(read_row(8, 9, 8, 16), 16);
+    EXPECT_NUMBER(read_row(17, 0, 8, 16), 16);
+    EXPECT_NUMBER(read_row(7, 1, 8, 16), 16);
+    EXPECT_NUMBER(read_row(1, UINT32_MAX, 0, UINT32_MAX), 16);
+    EXPECT_NUMBER(read_row(0, SIZE, 0, UINT32_MAX), 0);
+    EXPECT_NUMBER(read_row(1, SIZE, 0, UINT32_MAX), 17);
+    EXPECT_NUMBER(read_row(SIZE + 1, 0, 0, UINT32_MAX), 17);
+    ask(SIEVELAST_CREATE, 0, 1, OBJECT, 5), make(black, NULL), EXPECT_NUMBER(row(), 18);
+    ask(SIEVELAST_CREATE, 0, 1, 2, QUARTER - SIZE + 1), make(black, NULL), EXPECT_NUMBER(row(), 20);
+    ask(SIEVELAST_CREATE, 0, 1, 2, QUARTER - SIZE), make(black, NULL), EXPECT_NUMBER(row(), 0);
+}
+
+/* ---- rows 19, 21 and 22: of what a drive can hold */
+static void rows_of_the_state(void)
+{
+    ready(1);
+    for (uint32_t i = 2; i <= SIEVELAST_MOST_OBJECTS; i++)
+        ask(SIEVELAST_CREATE, 0, 1, i, 3), make(black, NULL), EXPECT_NUMBER(row(), 0);
+    ask(SIEVELAST_CREATE, 0, 1, 17, 3), make(black, NULL), EXPECT_NUMBER(row(), 19);
+    ask(SIEVELAST_DELETE, OBJECT, 2, 0, 0), make(black, NULL), EXPECT_NUMBER(row(), 0);
+    ask(SIEVELAST_CREATE, 0, 1, 17, SIZE), make(black, NULL), EXPECT_NUMBER(row(), 0);
+    ask(SIEVELAST_LOOK, 17, 18, 0, 0);
+    while (drive.lengths[0] < SIEVELAST_MOST_ENTRIES && !failures)
+        make(black, NULL), EXPECT_NUMBER(row(), 0);
+    make(black, NULL), EXPECT_NUMBER(row(), 22);
+    struct lending l = lending();
+    l.clock = CLOCK + 5001; /* every entry is outlived, and so is the credential */
+    EXPECT_NUMBER(put(l).row, 10);
+    EXPECT_NUMBER(drive.lengths[0], 0);
+    ready(UINT32_MAX);
+    ask(SIEVELAST_RAISE, 0, UINT32_MAX, 0, 0), make(black, NULL), EXPECT_NUMBER(row(), 21);
+    ask(SIEVELAST_CREATE, 0, UINT32_MAX, 1, 1), make(black, NULL), EXPECT_NUMBER(row(), 21);
+}
+
+/* ---- row 23: a reply space too short by one, exact and longer, for each operation and level; the rest of the reply is checked */
+static void reply_spaces(int level)
+{
+    static const uint32_t args[][4] = {{0, 0, 0, 0},      {OBJECT, 2, 3, 9}, {OBJECT, 2, 3, 9}, {OBJECT, 2, 0, 0},
+                                       {OBJECT, 2, 0, 0}, {0, 1, 5, 6},      {OBJECT, 3, 0, 0}};
+    static const size_t results[] = {0, 9, 0, SIEVELAST_LOOK_BYTES, SIEVELAST_NEW_VERSION_BYTES, SIEVELAST_NEW_VERSION_BYTES, 0};
+    ready(1);
+    for (int op = SIEVELAST_READ; op <= SIEVELAST_DELETE; op++) {
+        size_t length = SIEVELAST_REPLY_HEAD_BYTES + results[op] + (level == SIEVELAST_LEVEL_REPLY ? SIEVELAST_DIGEST_BYTES : 0);
+        snprintf(under_way, sizeof under_way, "operation %d at level %d", op, level);
+        ask(op, args[op][0], args[op][1], args[op][2], args[op][3]);
+        what.level = (uint8_t)level;
+        make(black, (const uint8_t *)"new bytes");
+        struct lending l = lending();
+        l.reply_len = length - 1, EXPECT_NUMBER(put(l).row, 23);
+        l.reply_len = 0, EXPECT_NUMBER(put(l).row, 23);
+        l.reply_len = length + (op % 2 ? 0 : 3);
+        struct sievelast_answered a = put(l);
+        EXPECT_NUMBER(a.row, 0);
+        EXPECT_NUMBER(a.length, length);
+        EXPECT_NUMBER(put(l).row, 12);
+    }
+    *under_way = 0;
+}
+
+/* ---- medium, frame and reply at every offset from the machine's alignment: a write and a read, the medium moving in its buffer */
+static void alignments(void)
+{
+    uint8_t text[9] = "123456789";
+    static uint8_t space[8 + MEDIUM];
+    ready(1);
+    struct sievelast_drive ready_drive = drive;
+    for (size_t off = 0; off < 512; off++) {
+        uint8_t *m = space + off % 8, frame_space[8 + sizeof frame], reply_space[8 + 64];
+        drive = ready_drive;
+        memcpy(m, medium, MEDIUM);
+        for (int op = SIEVELAST_WRITE; op >= SIEVELAST_READ; op--) {
+            uint8_t *f = frame_space + off / 8 % 8, *reply = reply_space + off / 64;
+            ask(op, OBJECT, 2, 3, sizeof text), what.level = SIEVELAST_LEVEL_DATA, make(black, text);
+            memcpy(f, frame, frame_len);
+            struct sievelast_answered a = sievelast_gate(&drive, m, MEDIUM, f, frame_len, CLOCK, reply, 64);
+            EXPECT_NUMBER(a.row, 0);
+            EXPECT_NUMBER(a.length, SIEVELAST_REPLY_HEAD_BYTES + (op == SIEVELAST_READ ? sizeof text : 0));
+            EXPECT(op != SIEVELAST_READ || !memcmp(reply + SIEVELAST_REPLY_HEAD_BYTES, text, sizeof text));
+        }
+    }
+}
+
+/* ---- format refused: the record is overwritten, the medium is not */
+static void formats(int largest)
+{
+    enum { KEY = SIEVELAST_KEY_BYTES };
+    ready(1);
+    EXPECT_NUMBER(format(MEDIUM, 0, KEY, KEY), 25);
+    EXPECT_NUMBER(row(), 1);
+    ready(1);
+    EXPECT_NUMBER(format(MEDIUM, 1, KEY - 1, KEY), 26);
+    ready(1);
+    EXPECT_NUMBER(format(MEDIUM, 1, KEY, 0), 26);
+    EXPECT_NUMBER(format(MEDIUM, 0, 0, 0), 25);
+    EXPECT_NUMBER(sievelast_format(&drive, NULL, 0, 1, NULL, 0, NULL, 0), 26);
+    EXPECT_NUMBER(sievelast_format(&drive, NULL, 0, 1, master, KEY, drive_key, KEY), 0);
+    EXPECT_NUMBER(sievelast_gate(&drive, NULL, 0, NULL, 0, CLOCK, NULL, 0).row, 2);
+    if (!largest)
+        return;
+    struct lent large = filled(SIEVELAST_MOST_MEDIUM_BYTES + 1, 0, NULL);
+    size_t kept = 0, zeros = 0;
+    EXPECT_NUMBER(answered(sievelast_format(&drive, large.bytes, large.length, 0, NULL, 0, NULL, 0), 0).row, 24);
+    EXPECT_NUMBER(drive.size, 0);
+    while (kept < large.length && large.bytes[kept] == FILL)
+        kept++;
+    EXPECT_NUMBER(kept, large.length);
+    EXPECT_NUMBER(sievelast_format(&drive, large.bytes, large.length - 1, 1, master, KEY, drive_key, KEY), 0);
+    while (zeros < large.length && large.bytes[zeros] == 0)
+        zeros++;
+    EXPECT_NUMBER(zeros, large.length - 1);
+    give_back(&large);
+}
+
+/* ---- issuer: rows 26, 28 and 29, and the space */
+static void issue_refused(uint64_t right, struct sievelast_credential c, size_t key_len, size_t space_len)
+{
+    static const uint8_t zeros[SIEVELAST_KEY_BYTES];
+    struct lent space = filled(space_len, 1, NULL), kept = filled(space_len, 0, NULL);
+    struct sievelast_issued i = sievelast_issue(c, master, key_len, space.bytes, space.length);
+    EXPECT_NUMBER(answered(i.row, 0).row, right);
+    EXPECT(same_bytes(&space, &kept));
+    EXPECT(!memcmp(i.key, zeros, sizeof zeros));
+    give_back(&space), give_back(&kept);
+}
+
+static void issuer(void)
+{
+    struct sievelast_credential good = {9, 8, 7, 6, 5, 4, SIEVELAST_EVERY_RIGHT, 3, SIEVELAST_SLOT_GOLD, SIEVELAST_LEVEL_REPLY}, bad;
+    struct lent space = filled(SIEVELAST_CREDENTIAL_BYTES + 5, 3, NULL);
+    uint8_t bytes[SIEVELAST_CREDENTIAL_BYTES], key[SIEVELAST_KEY_BYTES];
+    struct sievelast_issued i = sievelast_issue(good, master, SIEVELAST_KEY_BYTES, space.bytes, space.length);
+    sievelast_credential_encode(good, bytes, sizeof bytes);
+    test_hmac(master, SIEVELAST_KEY_BYTES, bytes, sizeof bytes, key);
+    EXPECT_NUMBER(i.row, 0);
+    EXPECT(!memcmp(space.bytes, bytes, sizeof bytes));
+    EXPECT(!memcmp(i.key, key, sizeof key));
+    for (size_t at = sizeof bytes; at < space.length; at++)
+        EXPECT_NUMBER(space.bytes[at], FILL);
+    give_back(&space);
+    issue_refused(26, good, SIEVELAST_KEY_BYTES - 1, SIEVELAST_CREDENTIAL_BYTES);
+    issue_refused(26, good, 0, 0);
+    bad = good, bad.partition = 4, issue_refused(28, bad, SIEVELAST_KEY_BYTES, SIEVELAST_CREDENTIAL_BYTES);
+    bad = good, bad.slot = 5, issue_refused(28, bad, SIEVELAST_KEY_BYTES, SIEVELAST_CREDENTIAL_BYTES);
+    bad = good, bad.slot = SIEVELAST_SLOT_MASTER, issue_refused(28, bad, SIEVELAST_KEY_BYTES, SIEVELAST_CREDENTIAL_BYTES);
+    bad = good, bad.rights = 0x80, issue_refused(28, bad, SIEVELAST_KEY_BYTES, SIEVELAST_CREDENTIAL_BYTES);
+    bad = good, bad.least = 3, issue_refused(28, bad, SIEVELAST_KEY_BYTES, 0);
+    issue_refused(29, good, SIEVELAST_KEY_BYTES, SIEVELAST_CREDENTIAL_BYTES - 1);
+    issue_refused(29, good, SIEVELAST_KEY_BYTES, 0);
+}
+
+/* ---- HMAC: RFC 4231's vectors (of case 5 it gives 16 bytes), the reference at every length up to some blocks, row 27 */
+static void vectors(void)
+{
+    static const struct { size_t key_len, data_len; int key_step; uint8_t key, data; const char *key_text, *text, *digest; } cases[] = {
+        {20, 0, 0, 0x0b, 0, NULL, "Hi There", "b0344c61d8db38535ca8afceaf0bf12b881dc200c9833da726e9376c2e32cff7"},
+        {4, 0, 0, 0, 0, "Jefe", "what do ya want for nothing?", "5bdcc146bf60754e6a042426089575c75a003f089d2739839dec58b964ec3843"},
+        {20, 50, 0, 0xaa, 0xdd, NULL, NULL, "773ea91e36800e46854db8ebd09181a72959098b3ef8c122d9635514ced565fe"},
+        {25, 50, 1, 1, 0xcd, NULL, NULL, "82558a389a443c0ea4cc819899f2083a85f0faa3e578f8077a2e3ff46729665b"},
+        {20, 0, 0, 0x0c, 0, NULL, "Test With Truncation", "a3b6167473100ee06e0c796c2955552b"},
+        {131, 0, 0, 0xaa, 0, NULL, "Test Using Larger Than Block-Size Key - Hash Key First",
+         "60e431591ee0b67f0d8a26aacbf5b77f8e0bc6213728c5140546040f0ee37f54"},
+        {131, 0, 0, 0xaa, 0, NULL,
+         "This is a test using a larger than block-size key and a larger than block-size data. The key needs to be hashed before being "
+         "used by the HMAC algorithm.",
+         "9b09ffa71b942fcb27635fbcd5b0e944bfdc63644f0713938a7f51535c3a35e2"},
+    };
+    for (size_t i = 0; i < sizeof cases / sizeof *cases; i++) {
+        uint8_t key[131], data[200];
+        char hex[2 * SIEVELAST_DIGEST_BYTES + 1];
+        size_t n = cases[i].text ? strlen(cases[i].text) : cases[i].data_len;
+        for (size_t k = 0; k < cases[i].key_len; k++)
+            key[k] = cases[i].key_text ? (uint8_t)cases[i].key_text[k] : (uint8_t)(cases[i].key + k * (size_t)cases[i].key_step);
+        for (size_t k = 0; k < n; k++)
+            data[k] = cases[i].text ? (uint8_t)cases[i].text[k] : cases[i].data;
+        struct sievelast_digest h = sievelast_hmac(key, cases[i].key_len, data, n);
+        for (int k = 0; k < SIEVELAST_DIGEST_BYTES; k++)
+            snprintf(hex + 2 * k, 3, "%02x", h.bytes[k]);
+        EXPECT_NUMBER(h.row, 0);
+        EXPECT(!strncmp(hex, cases[i].digest, strlen(cases[i].digest)));
+    }
+}
+
+static void hmac_as_reference(size_t key_len, size_t message_len, size_t offset)
+{
+    struct lent key = filled(key_len, offset % 8, NULL), message = filled(message_len, offset / 8 % 8, NULL);
+    uint8_t right[SIEVELAST_DIGEST_BYTES];
+    for (size_t i = 0; i < key_len; i++)
+        key.bytes[i] = (uint8_t)(i * 5 + message_len);
+    struct sievelast_digest h = sievelast_hmac(key.bytes, key.length, message.bytes, message.length);
+    test_hmac(key.bytes, key.length, message.bytes, message.length, right);
+    EXPECT_NUMBER(h.row, 0);
+    EXPECT(!memcmp(h.bytes, right, sizeof right));
+    give_back(&key), give_back(&message);
+}
+
+static void hmacs(int largest)
+{
+    static const uint8_t zeros[SIEVELAST_DIGEST_BYTES];
+    vectors();
+    for (size_t n = 0; n < 300; n++)
+        hmac_as_reference(n * 7 % 150, n, n);
+    if (!largest)
+        return;
+    hmac_as_reference(SIEVELAST_KEY_BYTES, SIEVELAST_MOST_MEDIUM_BYTES, 3);
+    struct lent large = filled(SIEVELAST_MOST_MEDIUM_BYTES + 1, 0, NULL);
+    struct sievelast_digest one = sievelast_hmac(large.bytes, large.length, NULL, 0);
+    struct sievelast_digest other = sievelast_hmac(NULL, 0, large.bytes, large.length);
+    EXPECT_NUMBER(answered(one.row, 0).row, 27);
+    EXPECT_NUMBER(answered(other.row, 0).row, 27);
+    EXPECT(!memcmp(one.bytes, zeros, sizeof zeros) && !memcmp(other.bytes, zeros, sizeof zeros));
+    give_back(&large);
+}
+
+/* ---- a record spoiled in every part */
+static struct part {
+    const char *name;
+    size_t at, width, count;
+    int can_be_unsound; /* whether row 1 looks at it */
+    unsigned long unsound, sound, granted;
+} parts[] = {
+    {"size", offsetof(struct sievelast_drive, size), 8, 1, 1, 0, 0, 0},
+    {"mark", offsetof(struct sievelast_drive, highwater), 8, 1, 0, 0, 0, 0},
+    {"keys", offsetof(struct sievelast_drive, keys), 1, SIEVELAST_RECORD_KEYS, 0, 0, 0, 0},
+    {"tables", offsetof(struct sievelast_drive, tables), 4, SIEVELAST_RECORD_TABLES, 1, 0, 0, 0},
+    {"lengths", offsetof(struct sievelast_drive, lengths), 8, SIEVELAST_MEMORIES, 1, 0, 0, 0},
+    {"slots", offsetof(struct sievelast_drive, slots), 1, SIEVELAST_RECORD_PLACES, 0, 0, 0, 0},
+    {"holders", offsetof(struct sievelast_drive, holders), 4, SIEVELAST_RECORD_PLACES, 0, 0, 0, 0},
+    {"times", offsetof(struct sievelast_drive, times), 8, SIEVELAST_RECORD_PLACES, 0, 0, 0, 0},
+    {"counts", offsetof(struct sievelast_drive, counts), 4, SIEVELAST_RECORD_PLACES, 0, 0, 0, 0},
+};
+enum { PART_COUNT = sizeof parts / sizeof *parts };
+
+/* Values that a rule may turn on, from the number that is there. */
+static uint64_t spoilt(uint64_t x, uint32_t way, struct choices *s)
+{
+    const uint64_t values[] = {x + 1, x - 1, 0, 1, UINT64_MAX, x ^ (uint64_t)1 << choose(s, 64), 16, 17, 64, 65, QUARTER, QUARTER + 1,
+                               SIEVELAST_MOST_MEDIUM_BYTES, SIEVELAST_MOST_MEDIUM_BYTES + 1, MEDIUM / 2, choose_number(s, 8)};
+    return values[way % (sizeof values / sizeof *values)];
+}
+enum { WAYS = 16 };
+
+/* Spoils one number of a part; x86-64 has the lowest byte first. */
+static void spoil_number(const struct part *p, size_t i, uint32_t way, struct choices *s)
+{
+    uint8_t *at = (uint8_t *)&drive + p->at + i * p->width;
+    uint64_t x = 0;
+    memcpy(&x, at, p->width);
+    x = spoilt(x, way, s);
+    memcpy(at, &x, p->width);
+    snprintf(under_way, sizeof under_way, "%s[%zu] is %" PRIu64, p->name, i, x);
+}
+
+/* Puts a frame to the spoiled record, with the medium that its size names where there is so much, and counts. */
+static void put_spoiled(struct part *p, const uint8_t *bytes, size_t length, uint64_t clock, size_t space)
+{
+    struct lending l = {bytes, length, space, drive.size <= MEDIUM ? drive.size : MEDIUM, clock, 0, 0};
+    int sound = paper_sound(&drive);
+    uint64_t r = put(l).row;
+    EXPECT(sound ? drive.size > MEDIUM || r != 1 : r == 1);
+    p->unsound += !sound;
+    p->sound += sound;
+    p->granted += r == 0;
+}
+
+/* A drafted frame, signed by the spoiled record's own keys; or one of random bytes. */
+static void put_draft(struct part *p, struct choices *s)
+{
+    struct draft f;
+    draft_call(&f, &drive, s);
+    if (choose(s, 8) == 0)
+        for (size_t i = 0; i < sizeof f.frame; i++)
+            f.frame[i] = choose_byte(s);
+    put_spoiled(p, f.frame, f.length, f.clock, draft_space(&f, s));
+}
+
+/* All keys set, as no list of calls has to. */
+static void every_key(void)
+{
+    for (size_t i = 0; i < sizeof drive.keys; i++)
+        drive.keys[i] = i < FLAGS_AT ? (uint8_t)(i * 11 + 3) : 1;
+}
+
+/* Each number of each part, in every way, before a read that would be granted, and before a draft. */
+static void spoil_each(size_t step)
+{
+    struct choices s = {NULL, 0, 77};
+    ready(1);
+    for (uint32_t i = 2; i <= 12; i++)
+        ask(SIEVELAST_CREATE, 0, 1, i, 1 + i % 5), make(black, NULL), EXPECT_NUMBER(row(), 0);
+    struct sievelast_drive sound = drive;
+    uint8_t kept[sizeof buffer];
+    memcpy(kept, buffer, sizeof buffer);
+    ask_read(2, 9), make(black, NULL);
+    for (size_t k = 0; k < PART_COUNT; k++)
+        for (size_t i = 0; i < parts[k].count * WAYS; i += step) {
+            drive = sound;
+            spoil_number(&parts[k], i / WAYS, i % WAYS, &s);
+            put_spoiled(&parts[k], frame, frame_len, CLOCK, REPLY);
+            put_draft(&parts[k], &s);
+            memcpy(buffer, kept, sizeof buffer);
+        }
+}
+
+/* From a state that random calls made: each part spoiled in one to three numbers, then some calls. */
+static void spoil_round(struct choices *s)
+{
+    static struct part none = {"nothing", 0, 0, 0, 0, 0, 0, 0};
+    *under_way = 0;
+    for (int i = 0; i < 12; i++)
+        put_draft(&none, s);
+    struct sievelast_drive sound = drive;
+    uint8_t kept[sizeof buffer];
+    memcpy(kept, buffer, sizeof buffer);
+    for (size_t k = 0; k < PART_COUNT; k++) {
+        for (uint32_t left = 1 + choose(s, 3); left; left--)
+            spoil_number(&parts[k], choose(s, parts[k].count), choose(s, WAYS), s);
+        for (int calls = 0; calls < 3; calls++)
+            put_draft(&parts[k], s);
+        drive = sound;
+        memcpy(buffer, kept, sizeof buffer);
+    }
+}
+
+static void spoiled(unsigned long rounds)
+{
+    struct choices s = {NULL, 0, 20260101};
+    spoil_each(rounds < 100 ? 61 : 1);
+    for (unsigned long i = 0; i < rounds; i++) {
+        if (i % 25 == 0) {
+            memset(buffer, FILL, sizeof buffer);
+            *under_way = 0;
+            format(MEDIUM, 1 + choose(&s, 3), SIEVELAST_KEY_BYTES, SIEVELAST_KEY_BYTES);
+            every_key();
+        }
+        spoil_round(&s);
+    }
+    *under_way = 0;
+    for (size_t k = 0; k < PART_COUNT; k++) {
+        printf("store: %s spoiled: %lu calls refused by row 1, %lu judged, %lu of them granted\n", parts[k].name, parts[k].unsound,
+               parts[k].sound, parts[k].granted);
+        EXPECT((parts[k].unsound > 0) == parts[k].can_be_unsound);
+        EXPECT(parts[k].sound > 0 && parts[k].granted > 0);
+    }
+}
+
+int main(int argc, char **argv)
+{
+    unsigned long rounds = argc > 1 ? strtoul(argv[1], NULL, 10) : 400;
+    int largest = argc <= 1;
+    for (int i = 0; i < SIEVELAST_KEY_BYTES; i++)
+        master[i] = (uint8_t)(3 * i + 1), drive_key[i] = (uint8_t)(250 - i);
+    rows_of_the_frame();
+    frame_lengths();
+    rows_of_the_fields();
+    rows_of_the_state();
+    for (int level = 0; level <= SIEVELAST_LEVEL_REPLY; level++)
+        reply_spaces(level);
+    alignments();
+    formats(largest);
+    issuer();
+    hmacs(largest);
+    for (uint64_t r = 0; r <= SIEVELAST_ROW_SPACE; r++) {
+        snprintf(under_way, sizeof under_way, "row %" PRIu64, r);
+        EXPECT(answers[r] > 0 || (!largest && (r == SIEVELAST_ROW_MEDIUM_LARGE || r == SIEVELAST_ROW_DIGEST_INPUT)));
+    }
+    *under_way = 0;
+    spoiled(rounds);
+    printf("store: %d checks, %d failures\n", checks, failures);
+    return failures != 0;
+}
