@@ -61,7 +61,8 @@ static inline int bad_records(const uint8_t *c, size_t c_len, const uint8_t *r, 
     return paper_row_3(c, r) || paper_row_4(c, r) || paper_row_5(r) || paper_row_6(c, r) || paper_row_7(c, r);
 }
 
-static inline uint64_t paper_build(const uint8_t *c, size_t c_len, const uint8_t *r, size_t r_len, size_t n, size_t key_len, size_t space_len)
+static inline uint64_t paper_build(const uint8_t *c, size_t c_len, const uint8_t *r, size_t r_len, size_t n, size_t key_len,
+                                   size_t space_len)
 {
     if (key_len != 32)
         return 26;

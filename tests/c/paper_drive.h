@@ -404,7 +404,8 @@ static inline int same_entries(const struct sievelast_drive *a, const struct sie
            !memcmp(a->counts + i, b->counts + i, n * sizeof *a->counts);
 }
 
-/* A key, table or memory is what it must be after a call that found it as `before`; one that the call does not change keeps every byte. */
+/* Whether a key, table or memory is what it must be after a call that found it as `before`. One that the call does not change keeps
+ * every byte. */
 static inline int key_right(struct sievelast_drive *before, struct sievelast_drive *right, struct sievelast_drive *found, int place)
 {
     uint8_t *flags[] = {before->keys + FLAGS_AT + place, right->keys + FLAGS_AT + place, found->keys + FLAGS_AT + place};
@@ -420,8 +421,8 @@ static inline int table_right(const uint32_t *before, const uint32_t *right, con
     return memcmp(before, right, bytes) ? same_table(right, found) : !memcmp(before, found, bytes);
 }
 
-static inline int memory_right(const struct sievelast_drive *before, const struct sievelast_drive *right, const struct sievelast_drive *found,
-                               int memory)
+static inline int memory_right(const struct sievelast_drive *before, const struct sievelast_drive *right,
+                               const struct sievelast_drive *found, int memory)
 {
     if (same_entries(before, right, memory, SIEVELAST_MOST_ENTRIES))
         return same_entries(before, found, memory, SIEVELAST_MOST_ENTRIES);

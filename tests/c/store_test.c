@@ -1,12 +1,11 @@
 /* The drive for C: format, gate, issuer and HMAC, by hand-made calls for every row and edge, and by records spoiled in every part.
  * Each call of the gate is also put to document 01 in plain C (paper_drive.h), and everything that it left behind is compared.
  *
- *   store_test [ROUNDS]      so many rounds of spoiled records, and not the largest lengths; 400 rounds and all if left out */
-#include "draft.h"
+ *   store_test [ROUNDS]      so many rounds of spoiled records, 20 or more, without the largest lengths; 400 and all if left out */
 #include "expect.h"
 #include "lent.h"
 #include "sievelast.h"
-#include <stddef.h>
+#include "spoil.h"
 
 enum {
     MEDIUM = 1000, /* M */
@@ -139,6 +138,7 @@ static uint64_t format(size_t medium_len, uint32_t first, size_t master_len, siz
     struct sievelast_drive right;
     static uint8_t right_buffer[sizeof buffer];
     memcpy(right_buffer, buffer, sizeof buffer);
+    memset(&drive, FILL, sizeof drive); /* whatever was there is gone, places that no entry has too */
     uint64_t right_row = paper_format(&right, right_buffer + BESIDE, medium_len, first, master, master_len, drive_key, key_len);
     uint64_t found = sievelast_format(&drive, medium, medium_len, first, master, master_len, drive_key, key_len);
     const char *differs = record_difference(&right, &right, &drive);
@@ -475,65 +475,37 @@ static void hmacs(int largest)
 }
 
 /* ---- a record spoiled in every part */
-static struct part {
-    const char *name;
-    size_t at, width, count;
-    int can_be_unsound; /* whether row 1 looks at it */
-    unsigned long unsound, sound, granted;
-} parts[] = {
-    {"size", offsetof(struct sievelast_drive, size), 8, 1, 1, 0, 0, 0},
-    {"mark", offsetof(struct sievelast_drive, highwater), 8, 1, 0, 0, 0, 0},
-    {"keys", offsetof(struct sievelast_drive, keys), 1, SIEVELAST_RECORD_KEYS, 0, 0, 0, 0},
-    {"tables", offsetof(struct sievelast_drive, tables), 4, SIEVELAST_RECORD_TABLES, 1, 0, 0, 0},
-    {"lengths", offsetof(struct sievelast_drive, lengths), 8, SIEVELAST_MEMORIES, 1, 0, 0, 0},
-    {"slots", offsetof(struct sievelast_drive, slots), 1, SIEVELAST_RECORD_PLACES, 0, 0, 0, 0},
-    {"holders", offsetof(struct sievelast_drive, holders), 4, SIEVELAST_RECORD_PLACES, 0, 0, 0, 0},
-    {"times", offsetof(struct sievelast_drive, times), 8, SIEVELAST_RECORD_PLACES, 0, 0, 0, 0},
-    {"counts", offsetof(struct sievelast_drive, counts), 4, SIEVELAST_RECORD_PLACES, 0, 0, 0, 0},
-};
-enum { PART_COUNT = sizeof parts / sizeof *parts };
+static struct tally {
+    unsigned long unsound, judged, granted;
+} tallies[RECORD_PARTS];
 
-/* Values that a rule may turn on, from the number that is there. */
-static uint64_t spoilt(uint64_t x, uint32_t way, struct choices *s)
+static void spoil_one(size_t part, size_t i, uint32_t way, struct choices *s)
 {
-    const uint64_t values[] = {x + 1, x - 1, 0, 1, UINT64_MAX, x ^ (uint64_t)1 << choose(s, 64), 16, 17, 64, 65, QUARTER, QUARTER + 1,
-                               SIEVELAST_MOST_MEDIUM_BYTES, SIEVELAST_MOST_MEDIUM_BYTES + 1, MEDIUM / 2, choose_number(s, 8)};
-    return values[way % (sizeof values / sizeof *values)];
-}
-enum { WAYS = 16 };
-
-/* Spoils one number of a part; x86-64 has the lowest byte first. */
-static void spoil_number(const struct part *p, size_t i, uint32_t way, struct choices *s)
-{
-    uint8_t *at = (uint8_t *)&drive + p->at + i * p->width;
-    uint64_t x = 0;
-    memcpy(&x, at, p->width);
-    x = spoilt(x, way, s);
-    memcpy(at, &x, p->width);
-    snprintf(under_way, sizeof under_way, "%s[%zu] is %" PRIu64, p->name, i, x);
+    uint64_t x = spoil_number(&drive, &record_parts[part], i, way, s);
+    snprintf(under_way, sizeof under_way, "%s[%zu] is %" PRIu64, record_parts[part].name, i, x);
 }
 
 /* Puts a frame to the spoiled record, with the medium that its size names where there is so much, and counts. */
-static void put_spoiled(struct part *p, const uint8_t *bytes, size_t length, uint64_t clock, size_t space)
+static void put_spoiled(struct tally *t, const uint8_t *bytes, size_t length, uint64_t clock, size_t space)
 {
     struct lending l = {bytes, length, space, drive.size <= MEDIUM ? drive.size : MEDIUM, clock, 0, 0};
     int sound = paper_sound(&drive);
     uint64_t r = put(l).row;
     EXPECT(sound ? drive.size > MEDIUM || r != 1 : r == 1);
-    p->unsound += !sound;
-    p->sound += sound;
-    p->granted += r == 0;
+    t->unsound += !sound;
+    t->judged += sound;
+    t->granted += r == 0;
 }
 
 /* A drafted frame, signed by the spoiled record's own keys; or one of random bytes. */
-static void put_draft(struct part *p, struct choices *s)
+static void put_draft(struct tally *t, struct choices *s)
 {
     struct draft f;
     draft_call(&f, &drive, s);
     if (choose(s, 8) == 0)
         for (size_t i = 0; i < sizeof f.frame; i++)
             f.frame[i] = choose_byte(s);
-    put_spoiled(p, f.frame, f.length, f.clock, draft_space(&f, s));
+    put_spoiled(t, f.frame, f.length, f.clock, draft_space(&f, s));
 }
 
 /* All keys set, as no list of calls has to. */
@@ -554,12 +526,12 @@ static void spoil_each(size_t step)
     uint8_t kept[sizeof buffer];
     memcpy(kept, buffer, sizeof buffer);
     ask_read(2, 9), make(black, NULL);
-    for (size_t k = 0; k < PART_COUNT; k++)
-        for (size_t i = 0; i < parts[k].count * WAYS; i += step) {
+    for (size_t k = 0; k < RECORD_PARTS; k++)
+        for (size_t i = 0; i < record_parts[k].count * SPOIL_WAYS; i += step) {
             drive = sound;
-            spoil_number(&parts[k], i / WAYS, i % WAYS, &s);
-            put_spoiled(&parts[k], frame, frame_len, CLOCK, REPLY);
-            put_draft(&parts[k], &s);
+            spoil_one(k, i / SPOIL_WAYS, i % SPOIL_WAYS, &s);
+            put_spoiled(&tallies[k], frame, frame_len, CLOCK, REPLY);
+            put_draft(&tallies[k], &s);
             memcpy(buffer, kept, sizeof buffer);
         }
 }
@@ -567,18 +539,18 @@ static void spoil_each(size_t step)
 /* From a state that random calls made: each part spoiled in one to three numbers, then some calls. */
 static void spoil_round(struct choices *s)
 {
-    static struct part none = {"nothing", 0, 0, 0, 0, 0, 0, 0};
+    static struct tally unspoiled;
     *under_way = 0;
     for (int i = 0; i < 12; i++)
-        put_draft(&none, s);
+        put_draft(&unspoiled, s);
     struct sievelast_drive sound = drive;
     uint8_t kept[sizeof buffer];
     memcpy(kept, buffer, sizeof buffer);
-    for (size_t k = 0; k < PART_COUNT; k++) {
+    for (size_t k = 0; k < RECORD_PARTS; k++) {
         for (uint32_t left = 1 + choose(s, 3); left; left--)
-            spoil_number(&parts[k], choose(s, parts[k].count), choose(s, WAYS), s);
+            spoil_one(k, choose(s, record_parts[k].count), choose(s, SPOIL_WAYS), s);
         for (int calls = 0; calls < 3; calls++)
-            put_draft(&parts[k], s);
+            put_draft(&tallies[k], s);
         drive = sound;
         memcpy(buffer, kept, sizeof buffer);
     }
@@ -598,11 +570,12 @@ static void spoiled(unsigned long rounds)
         spoil_round(&s);
     }
     *under_way = 0;
-    for (size_t k = 0; k < PART_COUNT; k++) {
-        printf("store: %s spoiled: %lu calls refused by row 1, %lu judged, %lu of them granted\n", parts[k].name, parts[k].unsound,
-               parts[k].sound, parts[k].granted);
-        EXPECT((parts[k].unsound > 0) == parts[k].can_be_unsound);
-        EXPECT(parts[k].sound > 0 && parts[k].granted > 0);
+    for (size_t k = 0; k < RECORD_PARTS; k++) {
+        const struct tally *t = &tallies[k];
+        printf("store: %s spoiled: %lu records not sound, %lu sound, %lu calls granted\n", record_parts[k].name, t->unsound, t->judged,
+               t->granted);
+        EXPECT((t->unsound > 0) == record_parts[k].in_row_1);
+        EXPECT(t->judged > 0 && t->granted > 0);
     }
 }
 

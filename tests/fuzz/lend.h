@@ -49,11 +49,13 @@ static inline uint8_t *area_lend(struct area *a, size_t length, int at_start, in
 
 static inline void area_shut(struct area *a) { MUST(mprotect(a->pages, a->size, PROT_READ) == 0); }
 
+static inline int all_canary(const uint8_t *p, size_t n) { return n == 0 || (*p == CANARY && !memcmp(p, p + 1, n - 1)); }
+
 /* No byte beside the space was written. */
 static inline void area_intact(const struct area *a)
 {
-    for (const uint8_t *p = a->pages; p < a->pages + a->size; p++)
-        if (p < a->lent || p >= a->lent + a->length)
-            MUST(*p == CANARY);
+    size_t before = (size_t)(a->lent - a->pages);
+    MUST(all_canary(a->pages, before));
+    MUST(all_canary(a->lent + a->length, a->size - before - a->length));
 }
 #endif

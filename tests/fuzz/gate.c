@@ -1,0 +1,227 @@
+/* sievelast_format_parts and sievelast_gate_parts on any list of calls, over a record that is sound or spoiled. Row, length and every
+ * byte of reply, medium and record are document 01's (paper_drive.h); and what the paper promises of every call is checked without it.
+ *
+ * An input is a list of choices (tests/c/draft.h); choices that it lacks are 0, which are those of good calls. First a format: M, the
+ * first version, whether all keys are set by hand; then steps until the bytes end, each a kind and what it needs. Every frame is signed
+ * by the record's own keys. Each input is played twice: with every part, frame, reply and medium at the end of its page, where one byte
+ * too far faults, and at the start, where one byte before does. */
+#include "lend.h"
+#include "spoil.h"
+
+enum { MOST_STEPS = 40, MOST_SIZE = 1500, RAW_FRAME = 200 };
+
+static struct area parts[RECORD_PARTS], medium, frame, reply, master, key;
+static struct sievelast_drive drive; /* what the parts held after the last call */
+static int at_start;
+
+static void areas_make(void)
+{
+    struct area *others[] = {&medium, &frame, &reply, &master, &key};
+    if (medium.pages)
+        return;
+    for (size_t i = 0; i < RECORD_PARTS; i++)
+        area_make(&parts[i], 1);
+    for (size_t i = 0; i < sizeof others / sizeof *others; i++)
+        area_make(others[i], 1);
+}
+
+/* ---- the record lent in parts, and gathered again */
+static void record_lend(void)
+{
+    for (size_t i = 0; i < RECORD_PARTS; i++) {
+        const struct record_part *p = &record_parts[i];
+        memcpy(area_lend(&parts[i], p->width * p->count, at_start, 0), (uint8_t *)&drive + p->at, p->width * p->count);
+    }
+}
+
+static struct sievelast_drive record_gather(void)
+{
+    struct sievelast_drive d = drive;
+    for (size_t i = 0; i < RECORD_PARTS; i++) {
+        area_intact(&parts[i]);
+        memcpy((uint8_t *)&d + record_parts[i].at, parts[i].lent, parts[i].length);
+    }
+    return d;
+}
+
+static uint8_t *bytes_of(int part) { return parts[part].lent; }
+static uint32_t *words_of(int part) { return (uint32_t *)(void *)parts[part].lent; }
+static uint64_t *longs_of(int part) { return (uint64_t *)(void *)parts[part].lent; }
+
+static uint64_t format_parts(uint32_t first)
+{
+    return sievelast_format_parts(longs_of(0), longs_of(1), bytes_of(2), words_of(3), longs_of(4), bytes_of(5), words_of(6), longs_of(7),
+                                  words_of(8), medium.given, medium.length, first, master.given, master.length, key.given, key.length);
+}
+
+static struct sievelast_answered gate_parts(size_t medium_len, uint64_t clock)
+{
+    return sievelast_gate_parts(*longs_of(0), longs_of(1), bytes_of(2), words_of(3), longs_of(4), bytes_of(5), words_of(6), longs_of(7),
+                                words_of(8), medium.given, medium_len, frame.given, frame.length, clock, reply.given, reply.length);
+}
+
+/* ---- format: of a medium that holds anything, over a record that holds anything */
+static void a_format(struct choices *s)
+{
+    static uint8_t right_medium[MOST_SIZE];
+    struct sievelast_drive right;
+    uint32_t way = choose(s, 8), first = way == 1 ? 0 : 1 + choose(s, 4);
+    size_t size = choose(s, MOST_SIZE + 1);
+    if (way == 2)
+        first = UINT32_MAX;
+    area_lend(&medium, size, at_start, 1);
+    memset(medium.lent, FILL, size);
+    memset(right_medium, FILL, size);
+    memset(area_lend(&master, way == 3 ? 31 : 32, at_start, 0), 0x4d, way == 3 ? 31 : 32);
+    memset(area_lend(&key, way == 4 ? 0 : 32, at_start, 1), 0x4b, way == 4 ? 0 : 32);
+    area_shut(&master), area_shut(&key);
+    record_lend();
+    uint64_t row = format_parts(first);
+    MUST(row == 0 || row == 25 || row == 26);
+    MUST(row == paper_format(&right, right_medium, size, first, master.lent, master.length, key.lent, key.length));
+    drive = record_gather();
+    MUST(record_difference(&right, &right, &drive) == NULL);
+    area_intact(&medium);
+    MUST(size == 0 || !memcmp(medium.lent, right_medium, size));
+}
+
+/* Every key set by hand, so that a list need not begin by setting them. */
+static void every_key(void)
+{
+    for (size_t i = 0; i < sizeof drive.keys; i++)
+        drive.keys[i] = i < FLAGS_AT ? (uint8_t)(i * 11 + 3) : 1;
+}
+
+/* ---- a call of the gate */
+static uint8_t medium_before[MOST_SIZE], right_medium[MOST_SIZE], right_reply[DRAFT_REPLY];
+
+/* What holds of every call, judged without the paper's gate. */
+static void promised(struct sievelast_answered a, const struct sievelast_drive *before, const struct sievelast_drive *after)
+{
+    MUST(a.row <= 23);
+    MUST(after->size == before->size);
+    MUST(after->highwater >= before->highwater);
+    if (a.row == 1)
+        MUST(!memcmp(before, after, sizeof *before));
+    if (a.row) {
+        MUST(a.length == 0);
+        MUST(medium.length == 0 || !memcmp(medium.lent, medium_before, medium.length));
+        MUST(!memcmp(before->keys, after->keys, sizeof before->keys) && !memcmp(before->tables, after->tables, sizeof before->tables));
+    }
+    if (a.row == 0) {
+        struct paper_call q = paper_call_of(frame.lent);
+        MUST(a.length == reply_length(&q) && a.length <= reply.length);
+    }
+    for (size_t i = a.length; i < reply.length; i++)
+        MUST(reply.lent[i] == FILL);
+}
+
+/* Puts the frame at hand, with so much of the medium. */
+static uint64_t put(size_t medium_len, uint64_t clock)
+{
+    struct sievelast_drive before = drive, right = drive;
+    memset(reply.lent, FILL, reply.length);
+    memset(right_reply, FILL, sizeof right_reply);
+    if (medium.length) {
+        memcpy(medium_before, medium.lent, medium.length);
+        memcpy(right_medium, medium.lent, medium.length);
+    }
+    record_lend();
+    struct sievelast_answered a = gate_parts(medium_len, clock);
+    drive = record_gather();
+    area_intact(&medium), area_intact(&reply);
+    promised(a, &before, &drive);
+    struct sievelast_answered b = paper_gate(&right, right_medium, medium_len, frame.lent, frame.length, clock, right_reply, reply.length);
+    MUST(a.row == b.row);
+    MUST(a.length == b.length);
+    MUST(reply.length == 0 || !memcmp(reply.lent, right_reply, reply.length));
+    MUST(medium.length == 0 || !memcmp(medium.lent, right_medium, medium.length));
+    MUST(a.row == 1 || record_difference(&before, &right, &drive) == NULL);
+    return a.row;
+}
+
+/* ---- the steps of a list */
+/* The medium that the record names, where there is so much: a spoiled size may be a smaller one. */
+static size_t named_medium(void) { return drive.size <= medium.length ? drive.size : medium.length; }
+
+static void frame_lend(const uint8_t *bytes, size_t length, size_t space)
+{
+    area_lend(&frame, length, at_start, 1);
+    if (length)
+        memcpy(frame.lent, bytes, length);
+    area_shut(&frame);
+    area_lend(&reply, space, at_start, 1);
+}
+
+static void a_draft(struct choices *s, size_t medium_len)
+{
+    struct draft f;
+    draft_call(&f, &drive, s);
+    frame_lend(f.frame, f.length, draft_space(&f, s));
+    if (put(medium_len, f.clock) == 0)
+        MUST(put(medium_len, f.clock) == 12); /* the same call again */
+}
+
+static void a_raw_frame(struct choices *s)
+{
+    uint8_t bytes[RAW_FRAME];
+    size_t length = choose(s, RAW_FRAME + 1);
+    for (size_t i = 0; i < length; i++)
+        bytes[i] = choose_byte(s);
+    frame_lend(bytes, length, choose(s, 64));
+    put(medium.length, choose_number(s, 8));
+}
+
+static void a_spoil(struct choices *s)
+{
+    const struct record_part *p = &record_parts[choose(s, RECORD_PARTS)];
+    spoil_number(&drive, p, choose(s, p->count), choose(s, SPOIL_WAYS), s);
+}
+
+static void a_step(struct choices *s)
+{
+    switch (choose(s, 16)) {
+    case 10:
+    case 11:
+        a_spoil(s);
+        a_draft(s, named_medium());
+        break;
+    case 12:
+        a_raw_frame(s);
+        break;
+    case 13:
+        if (frame.lent)
+            put(medium.length, drive.highwater + choose(s, 6000)); /* the last frame, later */
+        break;
+    case 14:
+        a_draft(s, medium.length - (medium.length > 0));
+        break;
+    case 15:
+        a_format(s);
+        break;
+    default:
+        a_draft(s, named_medium());
+    }
+}
+
+static void play(const uint8_t *bytes, size_t size)
+{
+    struct choices s = {bytes, size, 0};
+    memset(&drive, FILL, sizeof drive);
+    frame.lent = NULL;
+    int keys = choose(&s, 4) != 1;
+    a_format(&s);
+    if (keys)
+        every_key();
+    for (int i = 0; i < MOST_STEPS && s.left; i++)
+        a_step(&s);
+}
+
+int LLVMFuzzerTestOneInput(const uint8_t *bytes, size_t size);
+int LLVMFuzzerTestOneInput(const uint8_t *bytes, size_t size)
+{
+    areas_make();
+    for (at_start = 0; at_start < 2; at_start++)
+        play(bytes, size);
+    return 0;
+}
