@@ -1,4 +1,4 @@
-/* Plays the inputs that are named, without libFuzzer: for `coverage`, or a debugger. */
+/* Plays the inputs that are named, without libFuzzer: for the gate, `coverage`, or a debugger. */
 #include <stdint.h>
 #include <stdio.h>
 
@@ -15,5 +15,6 @@ int main(int argc, char **argv)
         fclose(file);
         LLVMFuzzerTestOneInput(bytes, size);
     }
-    return 0;
+    printf("%d inputs as they must be\n", argc - 1);
+    return argc < 2;
 }
