@@ -58,7 +58,8 @@ static inline void draft_who(struct draft *f, struct sievelast_drive *d, struct 
     int op = f->what.operation, named = op == SIEVELAST_READ || op == SIEVELAST_WRITE || op == SIEVELAST_DELETE;
     struct sievelast_credential who = {UINT64_MAX, 0, 0, 0, UINT32_MAX, 0, SIEVELAST_EVERY_RIGHT, 0, 0, 0};
     who.slot = (uint8_t)(op == SIEVELAST_SET_KEY ? 2 + choose(s, 3) : choose(s, 2));
-    who.partition = (uint8_t)(who.slot < 3 ? choose(s, SIEVELAST_PARTITIONS) : 0);
+    uint32_t place = choose(s, 2 * SIEVELAST_PARTITIONS);
+    who.partition = (uint8_t)(who.slot < 3 && place < SIEVELAST_PARTITIONS ? place : 0); /* partition 0 more often, so that it fills */
     who.holder = choose(s, 4);
     uint32_t *t = table_of(d, who.partition), n = t[COUNT_AT] < SIEVELAST_MOST_OBJECTS ? t[COUNT_AT] : SIEVELAST_MOST_OBJECTS;
     if (op != SIEVELAST_SET_KEY)
@@ -175,7 +176,9 @@ static inline void spoil_byte(struct draft *f, size_t n, struct choices *s)
 
 static inline void draft_call(struct draft *f, struct sievelast_drive *d, struct choices *s)
 {
-    f->what.operation = (uint8_t)(1 + choose(s, 7));
+    static const uint8_t operations[] = {SIEVELAST_READ,   SIEVELAST_WRITE,  SIEVELAST_LOOK,    SIEVELAST_RAISE, SIEVELAST_CREATE,
+                                         SIEVELAST_DELETE, SIEVELAST_SET_KEY, SIEVELAST_CREATE, SIEVELAST_READ,  SIEVELAST_WRITE};
+    f->what.operation = operations[choose(s, sizeof operations)];
     f->what.level = (uint8_t)choose(s, 3);
     draft_who(f, d, s);
     draft_when(f, d, s);

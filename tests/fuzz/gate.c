@@ -2,7 +2,7 @@
  * byte of reply, medium and record are document 01's (paper_drive.h); and what the paper promises of every call is checked without it.
  *
  * An input is a list of choices (tests/c/draft.h); choices that it lacks are 0, which are those of good calls. First a format: M, the
- * first version, whether all keys are set by hand; then steps until the bytes end, each a kind and what it needs. Every frame is signed
+ * first version, whether the record stays fresh; then steps until the bytes end, each a kind and what it needs. Every frame is signed
  * by the record's own keys. Each input is played twice: with every part, frame, reply and medium at the end of its page, where one byte
  * too far faults, and at the start, where one byte before does. */
 #include "lend.h"
@@ -85,11 +85,27 @@ static void a_format(struct choices *s)
     MUST(size == 0 || !memcmp(medium.lent, right_medium, size));
 }
 
-/* Every key set by hand, so that a list need not begin by setting them. */
-static void every_key(void)
+/* A fresh record made one that has seen much, so that a list need not begin with all that: every key is set, partition 0 has objects with
+ * gaps between them, and its replay memory and the fifth have entries. */
+static void prepare(struct choices *s)
 {
+    uint32_t *t = table_of(&drive, 0), room = (uint32_t)quarter_of(&drive) / SIEVELAST_MOST_OBJECTS, gap = choose(s, 3);
     for (size_t i = 0; i < sizeof drive.keys; i++)
         drive.keys[i] = i < FLAGS_AT ? (uint8_t)(i * 11 + 3) : 1;
+    t[COUNT_AT] = room > gap ? choose(s, SIEVELAST_MOST_OBJECTS + 1) : 0;
+    for (uint32_t i = 0; i < t[COUNT_AT]; i++) {
+        t[NUMBERS_AT + i] = i + 1;
+        t[VERSIONS_AT + i] = t[LAST_AT];
+        t[SIZES_AT + i] = room - gap;
+        t[STARTS_AT + i] = room * (i * 5 % SIEVELAST_MOST_OBJECTS); /* each in a place of its own, not in order */
+    }
+    drive.lengths[0] = choose(s, SIEVELAST_MOST_ENTRIES + 1);
+    drive.lengths[4] = choose(s, SIEVELAST_MOST_ENTRIES + 1);
+    drive.highwater = choose(s, 12000);
+    for (size_t i = 0; i < SIEVELAST_RECORD_PLACES; i++) {
+        drive.times[i] = drive.highwater + 2000 - i % SIEVELAST_MOST_ENTRIES * 100;
+        drive.counts[i] = (uint32_t)i;
+    }
 }
 
 /* ---- a call of the gate */
@@ -209,10 +225,10 @@ static void play(const uint8_t *bytes, size_t size)
     struct choices s = {bytes, size, 0};
     memset(&drive, FILL, sizeof drive);
     frame.lent = NULL;
-    int keys = choose(&s, 4) != 1;
+    int fresh = choose(&s, 4) == 1;
     a_format(&s);
-    if (keys)
-        every_key();
+    if (!fresh)
+        prepare(&s);
     for (int i = 0; i < MOST_STEPS && s.left; i++)
         a_step(&s);
 }
