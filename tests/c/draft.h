@@ -5,7 +5,7 @@
 #include "paper_drive.h"
 
 enum {
-    DRAFT_DATA = 64, /* most bytes of a write */
+    DRAFT_DATA = 320,   /* most bytes of a read or write */
     DRAFT_REPLY = 1024, /* most bytes of a reply space */
     DRAFT_FRAME = SIEVELAST_LEAST_FRAME_BYTES + DRAFT_DATA + 8
 };
@@ -52,13 +52,13 @@ struct draft {
     uint8_t frame[DRAFT_FRAME];
 };
 
-/* Slot, partition, object and its present version. */
+/* Slot, partition, object and its present version. What would need an object where there is none mostly creates one. */
 static inline void draft_who(struct draft *f, struct sievelast_drive *d, struct choices *s)
 {
     int op = f->what.operation, named = op == SIEVELAST_READ || op == SIEVELAST_WRITE || op == SIEVELAST_DELETE;
     struct sievelast_credential who = {UINT64_MAX, 0, 0, 0, UINT32_MAX, 0, SIEVELAST_EVERY_RIGHT, 0, 0, 0};
-    who.slot = (uint8_t)(op == SIEVELAST_SET_KEY ? 2 + choose(s, 3) : choose(s, 2));
     uint32_t place = choose(s, 2 * SIEVELAST_PARTITIONS);
+    who.slot = (uint8_t)(op == SIEVELAST_SET_KEY ? 2 + choose(s, 3) : choose(s, 2));
     who.partition = (uint8_t)(who.slot < 3 && place < SIEVELAST_PARTITIONS ? place : 0); /* partition 0 more often, so that it fills */
     who.holder = choose(s, 4);
     uint32_t *t = table_of(d, who.partition), n = t[COUNT_AT] < SIEVELAST_MOST_OBJECTS ? t[COUNT_AT] : SIEVELAST_MOST_OBJECTS;
@@ -68,8 +68,10 @@ static inline void draft_who(struct draft *f, struct sievelast_drive *d, struct 
         uint32_t i = choose(s, n);
         who.object = t[NUMBERS_AT + i];
         who.version = t[VERSIONS_AT + i];
-    } else if (named) {
+    } else if (named && choose(s, 8) == 1) {
         who.object = 1;
+    } else if (named) {
+        f->what.operation = SIEVELAST_CREATE;
     }
     f->who = who;
 }

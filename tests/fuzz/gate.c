@@ -8,7 +8,7 @@
 #include "lend.h"
 #include "spoil.h"
 
-enum { MOST_STEPS = 40, MOST_SIZE = 1500, RAW_FRAME = 200 };
+enum { MOST_STEPS = 40, MOST_SIZE = PAGE, RAW_FRAME = 200 };
 
 static struct area parts[RECORD_PARTS], medium, frame, reply, master, key;
 static struct sievelast_drive drive; /* what the parts held after the last call */
@@ -89,15 +89,16 @@ static void a_format(struct choices *s)
  * gaps between them, and its replay memory and the fifth have entries. */
 static void prepare(struct choices *s)
 {
-    uint32_t *t = table_of(&drive, 0), room = (uint32_t)quarter_of(&drive) / SIEVELAST_MOST_OBJECTS, gap = choose(s, 3);
+    uint32_t *t = table_of(&drive, 0), n = choose(s, SIEVELAST_MOST_OBJECTS + 1), gap = choose(s, 3);
+    uint32_t room = (uint32_t)quarter_of(&drive) / (n + 1);
     for (size_t i = 0; i < sizeof drive.keys; i++)
         drive.keys[i] = i < FLAGS_AT ? (uint8_t)(i * 11 + 3) : 1;
-    t[COUNT_AT] = room > gap ? choose(s, SIEVELAST_MOST_OBJECTS + 1) : 0;
+    t[COUNT_AT] = room > gap ? n : 0;
     for (uint32_t i = 0; i < t[COUNT_AT]; i++) {
         t[NUMBERS_AT + i] = i + 1;
         t[VERSIONS_AT + i] = t[LAST_AT];
         t[SIZES_AT + i] = room - gap;
-        t[STARTS_AT + i] = room * (i * 5 % SIEVELAST_MOST_OBJECTS); /* each in a place of its own, not in order */
+        t[STARTS_AT + i] = room * (n - i); /* the last object first, and a gap before it */
     }
     drive.lengths[0] = choose(s, SIEVELAST_MOST_ENTRIES + 1);
     drive.lengths[4] = choose(s, SIEVELAST_MOST_ENTRIES + 1);
@@ -194,6 +195,15 @@ static void a_spoil(struct choices *s)
     spoil_number(&drive, p, choose(s, p->count), choose(s, SPOIL_WAYS), s);
 }
 
+/* A format, and mostly a record that has seen much. */
+static void start(struct choices *s)
+{
+    int fresh = choose(s, 4) == 1;
+    a_format(s);
+    if (!fresh)
+        prepare(s);
+}
+
 static void a_step(struct choices *s)
 {
     switch (choose(s, 16)) {
@@ -213,7 +223,7 @@ static void a_step(struct choices *s)
         a_draft(s, medium.length - (medium.length > 0));
         break;
     case 15:
-        a_format(s);
+        start(s);
         break;
     default:
         a_draft(s, named_medium());
@@ -225,10 +235,7 @@ static void play(const uint8_t *bytes, size_t size)
     struct choices s = {bytes, size, 0};
     memset(&drive, FILL, sizeof drive);
     frame.lent = NULL;
-    int fresh = choose(&s, 4) == 1;
-    a_format(&s);
-    if (!fresh)
-        prepare(&s);
+    start(&s);
     for (int i = 0; i < MOST_STEPS && s.left; i++)
         a_step(&s);
 }
