@@ -5,8 +5,8 @@
 #include "paper_drive.h"
 
 enum {
-    DRAFT_DATA = 320,   /* most bytes of a read or write */
-    DRAFT_REPLY = 1024, /* most bytes of a reply space */
+    DRAFT_DATA = 700,   /* most bytes of a read or write: more than the eight blocks that a digest may take at once */
+    DRAFT_REPLY = 1200, /* most bytes of a reply space */
     DRAFT_FRAME = SIEVELAST_LEAST_FRAME_BYTES + DRAFT_DATA + 8
 };
 

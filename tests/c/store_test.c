@@ -14,6 +14,8 @@ enum {
     REPLY = DRAFT_REPLY,
     FILL = 0xee,
     CLOCK = 100000,
+    FEW_ROUNDS = 100, /* under so many, the long parts are spoiled in every 61st number and way alone */
+    LONG_STEP = 61,
     OBJECT = 1, /* of partition 0; it has 20 bytes */
     SIZE = 20
 };
@@ -515,7 +517,8 @@ static void every_key(void)
         drive.keys[i] = i < FLAGS_AT ? (uint8_t)(i * 11 + 3) : 1;
 }
 
-/* Each number of each part, in every way, before a read that would be granted, and before a draft. */
+/* Each number of each part, in every way, before a read that would be granted, and before a draft; of the long parts only every so
+ * many. */
 static void spoil_each(size_t step)
 {
     struct choices s = {NULL, 0, 77};
@@ -527,7 +530,7 @@ static void spoil_each(size_t step)
     memcpy(kept, buffer, sizeof buffer);
     ask_read(2, 9), make(black, NULL);
     for (size_t k = 0; k < RECORD_PARTS; k++)
-        for (size_t i = 0; i < record_parts[k].count * SPOIL_WAYS; i += step) {
+        for (size_t i = 0; i < record_parts[k].count * SPOIL_WAYS; i += record_parts[k].count <= SIEVELAST_MEMORIES ? 1 : step) {
             drive = sound;
             spoil_one(k, i / SPOIL_WAYS, i % SPOIL_WAYS, &s);
             put_spoiled(&tallies[k], frame, frame_len, CLOCK, REPLY);
@@ -559,7 +562,7 @@ static void spoil_round(struct choices *s)
 static void spoiled(unsigned long rounds)
 {
     struct choices s = {NULL, 0, 20260101};
-    spoil_each(rounds < 100 ? 61 : 1);
+    spoil_each(rounds < FEW_ROUNDS ? LONG_STEP : 1);
     for (unsigned long i = 0; i < rounds; i++) {
         if (i % 25 == 0) {
             memset(buffer, FILL, sizeof buffer);

@@ -85,12 +85,12 @@ static void a_format(struct choices *s)
     MUST(size == 0 || !memcmp(medium.lent, right_medium, size));
 }
 
-/* A fresh record made one that has seen much, so that a list need not begin with all that: every key is set, partition 0 has objects with
- * gaps between them, and its replay memory and the fifth have entries. */
+/* A fresh record made one that has seen much, so that a list need not begin with all that: every key is set, partition 0 has objects,
+ * gaps between them or not, and its replay memory and the fifth have entries. */
 static void prepare(struct choices *s)
 {
     uint32_t *t = table_of(&drive, 0), n = choose(s, SIEVELAST_MOST_OBJECTS + 1), gap = choose(s, 3);
-    uint32_t room = (uint32_t)quarter_of(&drive) / (n + 1);
+    uint32_t room = n ? (uint32_t)quarter_of(&drive) / n : 0;
     for (size_t i = 0; i < sizeof drive.keys; i++)
         drive.keys[i] = i < FLAGS_AT ? (uint8_t)(i * 11 + 3) : 1;
     t[COUNT_AT] = room > gap ? n : 0;
@@ -98,7 +98,7 @@ static void prepare(struct choices *s)
         t[NUMBERS_AT + i] = i + 1;
         t[VERSIONS_AT + i] = t[LAST_AT];
         t[SIZES_AT + i] = room - gap;
-        t[STARTS_AT + i] = room * (n - i); /* the last object first, and a gap before it */
+        t[STARTS_AT + i] = room * (n - 1 - i); /* the last object first */
     }
     drive.lengths[0] = choose(s, SIEVELAST_MOST_ENTRIES + 1);
     drive.lengths[4] = choose(s, SIEVELAST_MOST_ENTRIES + 1);
