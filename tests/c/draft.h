@@ -1,4 +1,5 @@
-/* Calls drafted from a list of choices: an input's bytes, or random ones. A draft knows the record, takes its objects, versions, mark
+/* Calls drafted from a list of choices: an input's bytes, or random ones. No two choices stand in one expression, since a compiler may
+ * take them in either order, and an input must mean the same to each. A draft knows the record, takes its objects, versions, mark
  * and keys, and is mostly one that no row refuses; then it may be spoiled, is signed, and may be spoiled once more. */
 #ifndef TESTS_DRAFT_H
 #define TESTS_DRAFT_H
@@ -172,8 +173,10 @@ static inline void draft_sign(struct draft *f, struct sievelast_drive *d)
 /* A byte of the first n, changed; mostly none. */
 static inline void spoil_byte(struct draft *f, size_t n, struct choices *s)
 {
-    if (choose(s, 16) == 1)
-        f->frame[choose(s, n)] ^= (uint8_t)(1 + choose(s, 255));
+    if (choose(s, 16) != 1)
+        return;
+    uint32_t at = choose(s, n);
+    f->frame[at] ^= (uint8_t)(1 + choose(s, 255));
 }
 
 static inline void draft_call(struct draft *f, struct sievelast_drive *d, struct choices *s)

@@ -30,12 +30,13 @@ enum { RECORD_PARTS = sizeof record_parts / sizeof *record_parts, SPOIL_WAYS = 1
 /* A value that a rule may turn on, from the number x that is there and a medium of `size` bytes. */
 static inline uint64_t spoilt(uint64_t x, uint64_t size, uint32_t way, struct choices *s)
 {
+    uint64_t bit = (uint64_t)1 << choose(s, 64), any = choose_number(s, 8);
     const uint64_t values[SPOIL_WAYS] = {x + 1,
                                          x - 1,
                                          0,
                                          1,
                                          UINT64_MAX,
-                                         x ^ (uint64_t)1 << choose(s, 64),
+                                         x ^ bit,
                                          SIEVELAST_MOST_OBJECTS,
                                          SIEVELAST_MOST_OBJECTS + 1,
                                          SIEVELAST_MOST_ENTRIES,
@@ -45,7 +46,7 @@ static inline uint64_t spoilt(uint64_t x, uint64_t size, uint32_t way, struct ch
                                          SIEVELAST_MOST_MEDIUM_BYTES,
                                          SIEVELAST_MOST_MEDIUM_BYTES + 1,
                                          size / 2,
-                                         choose_number(s, 8)};
+                                         any};
     return values[way % SPOIL_WAYS];
 }
 

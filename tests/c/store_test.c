@@ -550,8 +550,10 @@ static void spoil_round(struct choices *s)
     uint8_t kept[sizeof buffer];
     memcpy(kept, buffer, sizeof buffer);
     for (size_t k = 0; k < RECORD_PARTS; k++) {
-        for (uint32_t left = 1 + choose(s, 3); left; left--)
-            spoil_one(k, choose(s, record_parts[k].count), choose(s, SPOIL_WAYS), s);
+        for (uint32_t left = 1 + choose(s, 3); left; left--) {
+            uint32_t i = choose(s, record_parts[k].count), way = choose(s, SPOIL_WAYS);
+            spoil_one(k, i, way, s);
+        }
         for (int calls = 0; calls < 3; calls++)
             put_draft(&tallies[k], s);
         drive = sound;

@@ -192,7 +192,8 @@ static void a_raw_frame(struct choices *s)
 static void a_spoil(struct choices *s)
 {
     const struct record_part *p = &record_parts[choose(s, RECORD_PARTS)];
-    spoil_number(&drive, p, choose(s, p->count), choose(s, SPOIL_WAYS), s);
+    uint32_t i = choose(s, p->count), way = choose(s, SPOIL_WAYS);
+    spoil_number(&drive, p, i, way, s);
 }
 
 /* A format, and mostly a record that has seen much. */
