@@ -38,7 +38,8 @@ struct sievelast_answered __wrap_sievelast_gate_parts(GATE_PARAMETERS)
 {
     uint64_t held[SIEVELAST_MEMORIES], mark = *highwater;
     memcpy(held, lengths, sizeof held);
-    struct sievelast_answered a = __real_sievelast_gate_parts(size, PARTS_PASSED, medium, medium_len, frame, frame_len, clock, reply, reply_len);
+    struct sievelast_answered a =
+        __real_sievelast_gate_parts(size, PARTS_PASSED, medium, medium_len, frame, frame_len, clock, reply, reply_len);
 #if BROKEN_gate == 3 /* one byte past the reply space */
     if (a.row == 0)
         spoil(reply + reply_len);
