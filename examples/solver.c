@@ -1,77 +1,82 @@
 /* A small cutting solver's way to a log's shape: build a read frame, send it, take the shape out of the reply.
  *
- *   solver frame CREDENTIAL KEY COUNT > frame      writes the frame that asks for the first 64 bytes of the shape
- *   solver shape CREDENTIAL KEY COUNT < reply      prints the shape that the reply shows, in hexadecimal, or the row that says no
+ *   solver shape SOCKET CREDENTIAL KEY > shape                      asks a store (store.c) for every byte that the credential opens
+ *   solver frame CREDENTIAL KEY TIME COUNT LENGTH > frame           the same in two halves, for whatever wire there is: the
+ *   solver check CREDENTIAL KEY TIME COUNT LENGTH < reply > shape   first LENGTH of these bytes, and the shape that the reply shows
  *
- * CREDENTIAL is a file of 36 bytes and KEY one of 32, both from the file manager; COUNT numbers this solver's frames. The frame
- * goes to the drive by whatever wire there is. Build: cc -Iinclude examples/solver.c target/staticlib/libsolver.a
+ * CREDENTIAL is a file of 36 bytes and KEY one of 32, both from the file manager; TIME is in milliseconds and COUNT numbers the
+ * holder's frames of one millisecond. A refusal prints its row, and no shape.
+ * Build: cc -Iinclude examples/solver.c target/staticlib/libsolver.a
  */
+#include "wire.h"
 #include "sievelast.h"
-#include <inttypes.h>
-#include <stdio.h>
-#include <stdlib.h>
-#include <string.h>
+#include <sys/random.h>
 
-#define SHAPE_BYTES 64
+static uint8_t credential[SIEVELAST_CREDENTIAL_BYTES], key[SIEVELAST_KEY_BYTES], request[SIEVELAST_REQUEST_BYTES];
+static uint8_t frame[SIEVELAST_LEAST_FRAME_BYTES], reply[SIEVELAST_MOST_REPLY_BYTES + 1];
 
-static size_t load(const char *name, uint8_t *space, size_t size)
+/* The range that the credential opens. */
+static struct sievelast_credential load_credential(const char *credential_name, const char *key_name)
 {
-    FILE *f = fopen(name, "rb");
-    if (!f) {
-        perror(name);
-        exit(2);
-    }
-    size_t n = fread(space, 1, size, f);
-    fclose(f);
-    return n;
+    wire_load_exact(credential_name, credential, sizeof credential);
+    wire_load_exact(key_name, key, sizeof key);
+    struct sievelast_credential_decoded c = sievelast_credential_decode(credential, sizeof credential);
+    if (c.row)
+        wire_refused(credential_name, c.row);
+    return c.fields;
 }
 
-static void put(uint8_t *at, int width, uint64_t x)
+/* Builds the frame of a read at level 2: the reply carries a digest too, without which no byte of it may be believed. */
+static size_t build(uint32_t first, uint32_t length, uint64_t time, uint32_t count)
 {
-    for (int i = 0; i < width; i++)
-        at[i] = (uint8_t)(x >> 8 * (width - 1 - i));
+    struct sievelast_request r = {.operation = SIEVELAST_READ, .level = SIEVELAST_LEVEL_REPLY, .time = time, .count = count, .a = first, .b = length};
+    sievelast_request_encode(r, request, sizeof request);
+    struct sievelast_built b = sievelast_build(credential, sizeof credential, request, sizeof request, NULL, 0, key, sizeof key,
+                                               frame, sizeof frame);
+    if (b.row)
+        wire_refused("no frame", b.row);
+    return b.length;
 }
 
-/* The 28 bytes of a read at level 2: the reply will carry a digest too. */
-static void read_request(uint8_t request[28], uint64_t milliseconds, uint32_t count)
+static int print(const uint8_t *bytes, size_t n)
 {
-    memset(request, 0, 28);
-    put(request, 2, 0x4c52);
-    request[2] = 1;
-    request[3] = 2;
-    put(request + 4, 8, milliseconds);
-    put(request + 12, 4, count);
-    put(request + 20, 4, SHAPE_BYTES);
+    return fwrite(bytes, 1, n, stdout) == n && fflush(stdout) == 0 ? 0 : 2;
 }
 
-int main(int argc, char **argv)
+/* Prints the shape that a reply to the frame shows. */
+static int check(size_t reply_len)
 {
-    uint8_t credential[37], key[33], request[28], frame[96], reply[8 + SHAPE_BYTES + 32 + 1];
-    if (argc != 5) {
-        fprintf(stderr, "usage: solver frame|shape CREDENTIAL KEY COUNT\n");
-        return 2;
-    }
-    size_t credential_len = load(argv[2], credential, sizeof credential);
-    size_t key_len = load(argv[3], key, sizeof key);
-    /* a real solver takes the time from its clock, and keeps it with the frame until the reply has come */
-    read_request(request, 1000, (uint32_t)strtoul(argv[4], NULL, 10));
+    struct sievelast_checked c = sievelast_check(credential, sizeof credential, request, sizeof request, key, sizeof key, reply,
+                                                 reply_len);
+    if (c.row)
+        wire_refused("no shape", c.row);
+    return print(reply + c.start, c.length);
+}
 
-    if (!strcmp(argv[1], "frame")) {
-        struct sievelast_built b = sievelast_build(credential, credential_len, request, 28, NULL, 0, key, key_len, frame, sizeof frame);
-        if (b.row) {
-            fprintf(stderr, "no frame: row %" PRIu64 "\n", b.row);
-            return 1;
-        }
-        return fwrite(frame, 1, b.length, stdout) != b.length;
-    }
-    size_t reply_len = fread(reply, 1, sizeof reply, stdin);
-    struct sievelast_checked c = sievelast_check(credential, credential_len, request, 28, key, key_len, reply, reply_len);
-    if (c.row) {
-        printf("no shape: row %" PRIu64 "\n", c.row);
-        return 1;
-    }
-    for (uint64_t i = 0; i < c.length; i++)
-        printf("%02x", reply[c.start + i]);
-    printf("\n");
-    return 0;
+/* The count is random: other processes may send frames of this holder in the same millisecond. */
+static int shape(const char *path, const char *credential_name, const char *key_name)
+{
+    struct sievelast_credential c = load_credential(credential_name, key_name);
+    uint32_t count;
+    if (getrandom(&count, sizeof count, 0) != sizeof count)
+        wire_fail("random bytes");
+    size_t frame_len = build(c.first, c.end - c.first, wire_milliseconds(CLOCK_REALTIME), count);
+    struct wire_answer a = wire_ask(path, frame, frame_len, reply, sizeof reply);
+    if (a.row)
+        wire_refused("no shape", a.row);
+    return check(a.length);
+}
+
+int main(int count, char **words)
+{
+    const char *command = count > 1 ? words[1] : "";
+    if (count == 5 && !strcmp(command, "shape"))
+        return shape(words[2], words[3], words[4]);
+    int sends = !strcmp(command, "frame");
+    if (count != 7 || (!sends && strcmp(command, "check")))
+        wire_wrong("usage", "solver shape SOCKET CREDENTIAL KEY, frame|check CREDENTIAL KEY TIME COUNT LENGTH");
+    struct sievelast_credential c = load_credential(words[2], words[3]);
+    size_t frame_len = build(c.first, (uint32_t)wire_number(words[6], UINT32_MAX), wire_number(words[4], UINT64_MAX),
+                             (uint32_t)wire_number(words[5], UINT32_MAX));
+    return sends ? print(frame, frame_len) : check(fread(reply, 1, sizeof reply, stdin));
 }

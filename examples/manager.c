@@ -1,0 +1,340 @@
+/* A small file manager, for partition 0 of a store. What it knows is in a directory, so that a house can go on from it.
+ *
+ *   manager new DIR                          makes DIR with a random master key and drive key, for `store format`
+ *   manager keys DIR                         sets new keys: the partition's and its working key 0. Credentials under old ones end
+ *   manager create DIR NUMBER SIZE           makes object NUMBER of SIZE bytes
+ *   manager write DIR NUMBER < shape         writes a shape at the object's start
+ *   manager raise DIR NUMBER                 gives the object its next version: credentials issued for it before open nothing
+ *   manager delete DIR NUMBER
+ *   manager find DIR NUMBER                  learns an object's size and version anew, where the answer to a create or raise was lost
+ *   manager issue DIR NUMBER HOLDER read|write MINUTES CREDENTIAL KEY      makes the two files that holder HOLDER needs
+ *
+ * The store's socket is DIR/socket, or where a link of this name points. Files in DIR: master, drive-key, partition-key and
+ * working-key (32 bytes each); object-NUMBER (version and size) for each object; last, the greatest version seen; count, which
+ * numbers the frames. All have mode 600, as have CREDENTIAL and KEY. A file is replaced whole or not at all.
+ * A `keys` whose answer was lost is simply done again: the keys that sign are not the ones that it changes.
+ * Build: cc -Iinclude examples/manager.c target/staticlib/libsolver.a target/staticlib/libstore.a
+ */
+#include "wire.h"
+#include "sievelast.h"
+#include "sievelast_store.h"
+#include <sys/file.h>
+#include <sys/random.h>
+
+#define PARTITION 0
+#define HOLDER 0         /* the manager's own number */
+#define OWN_TIME 60000   /* milliseconds that its own credentials last */
+#define MOST_LOST 64     /* how many versions past the last one seen `find` tries */
+#define NAME_BYTES 4096
+#define TEXT_BYTES 64
+
+struct object {
+    uint32_t number, version, size;
+};
+
+static const char *dir;
+static uint8_t request[SIEVELAST_REQUEST_BYTES]; /* of the last frame */
+static uint8_t reply[SIEVELAST_REPLY_HEAD_BYTES + SIEVELAST_LOOK_BYTES + SIEVELAST_DIGEST_BYTES];
+
+/* ---- files */
+static const char *in_dir(const char *name)
+{
+    static char path[NAME_BYTES];
+    if (snprintf(path, sizeof path, "%s/%s", dir, name) >= NAME_BYTES)
+        wire_wrong(dir, "too long a name");
+    return path;
+}
+
+static const char *object_name(uint32_t number)
+{
+    static char name[TEXT_BYTES];
+    snprintf(name, sizeof name, "object-%" PRIu32, number);
+    return name;
+}
+
+/* Replaces a file whole, by one that has reached the disk. */
+static void save(const char *path, const void *bytes, size_t n)
+{
+    char fresh[NAME_BYTES + 8];
+    snprintf(fresh, sizeof fresh, "%s.fresh", path);
+    unlink(fresh);
+    int f = open(fresh, O_WRONLY | O_CREAT | O_EXCL | O_CLOEXEC, 0600);
+    if (f < 0 || write(f, bytes, n) != (ssize_t)n || fsync(f) || close(f) || rename(fresh, path))
+        wire_fail(path);
+}
+
+static void save_numbers(const char *name, uint32_t one, uint32_t two)
+{
+    char text[TEXT_BYTES];
+    int n = snprintf(text, sizeof text, "%" PRIu32 " %" PRIu32 "\n", one, two);
+    save(in_dir(name), text, (size_t)n);
+}
+
+/* Two numbers of a file in DIR. */
+static void load_numbers(const char *name, uint32_t *one, uint32_t *two)
+{
+    char text[TEXT_BYTES] = {0};
+    wire_load(in_dir(name), text, sizeof text - 1);
+    if (sscanf(text, "%" SCNu32 " %" SCNu32, one, two) != 2)
+        wire_wrong(in_dir(name), "not two numbers");
+}
+
+static void load_key(const char *name, uint8_t key[SIEVELAST_KEY_BYTES])
+{
+    wire_load_exact(in_dir(name), key, SIEVELAST_KEY_BYTES);
+}
+
+static void randomize(uint8_t *bytes, size_t n)
+{
+    if (getrandom(bytes, n, 0) != (ssize_t)n)
+        wire_fail("random bytes");
+}
+
+/* The directory, ours alone until the program ends. */
+static void enter(const char *name)
+{
+    dir = name;
+    int f = open(name, O_RDONLY | O_DIRECTORY | O_CLOEXEC);
+    if (f < 0 || flock(f, LOCK_EX))
+        wire_fail(name);
+}
+
+/* A number for the next frame, which no frame had before: it is on the disk before the frame is sent. */
+static uint32_t next_count(void)
+{
+    uint32_t count, unused;
+    load_numbers("count", &count, &unused);
+    save_numbers("count", count + 1, 0);
+    return count;
+}
+
+/* ---- frames */
+static struct sievelast_credential own_credential(enum sievelast_operation operation)
+{
+    return (struct sievelast_credential){.partition = PARTITION,
+                                         .holder = HOLDER,
+                                         .rights = SIEVELAST_RIGHT(operation),
+                                         .least = SIEVELAST_LEVEL_REPLY,
+                                         .end = UINT32_MAX,
+                                         .expiry = wire_milliseconds(CLOCK_REALTIME) + OWN_TIME};
+}
+
+/* Sends one frame at level 2 under a credential made for it and the key of its slot. The row, after a grant that of the reply
+ * check; *result is where in `reply` the result is. */
+static uint64_t ask(struct sievelast_credential c, const uint8_t *slot_key, struct sievelast_request r, const uint8_t *data,
+                    struct sievelast_checked *result)
+{
+    static uint8_t frame[SIEVELAST_MOST_FRAME_BYTES];
+    uint8_t credential[SIEVELAST_CREDENTIAL_BYTES];
+    r.level = SIEVELAST_LEVEL_REPLY;
+    r.time = wire_milliseconds(CLOCK_REALTIME);
+    r.count = next_count();
+    struct sievelast_issued i = sievelast_issue(c, slot_key, SIEVELAST_KEY_BYTES, credential, sizeof credential);
+    if (i.row)
+        return i.row;
+    sievelast_request_encode(r, request, sizeof request);
+    struct sievelast_built b = sievelast_build(credential, sizeof credential, request, sizeof request, data, r.data_len, i.key,
+                                               sizeof i.key, frame, sizeof frame);
+    if (b.row)
+        return b.row;
+    struct wire_answer a = wire_ask(in_dir("socket"), frame, b.length, reply, sizeof reply);
+    if (a.row)
+        return a.row;
+    *result = sievelast_check(credential, sizeof credential, request, sizeof request, i.key, sizeof i.key, reply, a.length);
+    return result->row;
+}
+
+/* The same on an object, or for number 0 on the partition, under the working key. */
+static uint64_t ask_object(struct object o, struct sievelast_request r, const uint8_t *data, struct sievelast_checked *result)
+{
+    uint8_t key[SIEVELAST_KEY_BYTES];
+    struct sievelast_credential c = own_credential(r.operation);
+    c.slot = SIEVELAST_SLOT_BLACK;
+    c.object = o.number;
+    c.version = o.version;
+    load_key("working-key", key);
+    return ask(c, key, r, data, result);
+}
+
+/* The version that a raise or a create gave, noted before anything else is done. */
+static void note_version(struct object *o, struct sievelast_checked result)
+{
+    o->version = (uint32_t)sievelast_version_decode(reply + result.start, result.length).version;
+    save_numbers("last", o->version, 0);
+    save_numbers(object_name(o->number), o->version, o->size);
+    printf("object %" PRIu32 ": %" PRIu32 " bytes, version %" PRIu32 "\n", o->number, o->size, o->version);
+}
+
+static struct object load_object(const char *number)
+{
+    struct object o = {.number = (uint32_t)wire_number(number, UINT32_MAX)};
+    load_numbers(object_name(o.number), &o.version, &o.size);
+    return o;
+}
+
+/* ---- commands */
+static void make(const char *name)
+{
+    uint8_t key[SIEVELAST_KEY_BYTES];
+    if (mkdir(name, 0700))
+        wire_fail(name);
+    enter(name);
+    randomize(key, sizeof key);
+    save(in_dir("master"), key, sizeof key);
+    randomize(key, sizeof key);
+    save(in_dir("drive-key"), key, sizeof key);
+    save_numbers("count", 0, 0);
+    save_numbers("last", WIRE_FIRST_VERSION, 0);
+}
+
+/* Operation 7: a key from a random seed, signed by the key above it. */
+static void set_key(enum sievelast_slot signing_slot, const char *signing_name, uint32_t target, const char *name)
+{
+    uint8_t signing[SIEVELAST_KEY_BYTES], message[SIEVELAST_REQUEST_BYTES + SIEVELAST_SEED_BYTES];
+    uint8_t *seed = message + SIEVELAST_REQUEST_BYTES;
+    struct sievelast_checked result;
+    struct sievelast_credential c = own_credential(SIEVELAST_SET_KEY);
+    c.slot = (uint8_t)signing_slot;
+    load_key(signing_name, signing);
+    randomize(seed, SIEVELAST_SEED_BYTES);
+    struct sievelast_request r = {.operation = SIEVELAST_SET_KEY, .a = target, .data_len = SIEVELAST_SEED_BYTES};
+    uint64_t row = ask(c, signing, r, seed, &result);
+    if (row)
+        wire_refused(name, row);
+    memcpy(message, request, sizeof request);
+    struct sievelast_digest d = sievelast_hmac(signing, sizeof signing, message, sizeof message);
+    save(in_dir(name), d.bytes, sizeof d.bytes);
+}
+
+static void keys(void)
+{
+    set_key(SIEVELAST_SLOT_DRIVE, "drive-key", PARTITION, "partition-key");
+    set_key(SIEVELAST_SLOT_PARTITION, "partition-key", SIEVELAST_SLOT_BLACK, "working-key");
+    printf("partition %d: its key and working key 0 are set\n", PARTITION);
+}
+
+static void create(const char *number, const char *size)
+{
+    struct object partition = {.version = WIRE_FIRST_VERSION};
+    struct object o = {.number = (uint32_t)wire_number(number, UINT32_MAX), .size = (uint32_t)wire_number(size, UINT32_MAX)};
+    struct sievelast_checked result;
+    uint64_t row = ask_object(partition, (struct sievelast_request){.operation = SIEVELAST_CREATE, .a = o.number, .b = o.size}, NULL,
+                              &result);
+    if (row)
+        wire_refused("not created", row);
+    note_version(&o, result);
+}
+
+static void raise_version(const char *number)
+{
+    struct object o = load_object(number);
+    struct sievelast_checked result;
+    uint64_t row = ask_object(o, (struct sievelast_request){.operation = SIEVELAST_RAISE}, NULL, &result);
+    if (row)
+        wire_refused("not raised", row);
+    note_version(&o, result);
+}
+
+static void delete(const char *number)
+{
+    struct object o = load_object(number);
+    struct sievelast_checked result;
+    uint64_t row = ask_object(o, (struct sievelast_request){.operation = SIEVELAST_DELETE}, NULL, &result);
+    if (row)
+        wire_refused("not deleted", row);
+    if (unlink(in_dir(object_name(o.number))))
+        wire_fail(number);
+    printf("object %" PRIu32 ": deleted\n", o.number);
+}
+
+/* A shape of more than a frame's data goes in several frames: until the last is granted the object holds a part of it. */
+static void write_shape(const char *number)
+{
+    static uint8_t data[SIEVELAST_MOST_DATA_BYTES];
+    struct object o = load_object(number);
+    struct sievelast_checked result;
+    uint32_t n, at = 0;
+    while ((n = (uint32_t)fread(data, 1, sizeof data, stdin)) > 0) {
+        uint64_t row = ask_object(o, (struct sievelast_request){.operation = SIEVELAST_WRITE, .a = at, .b = n, .data_len = n}, data,
+                                  &result);
+        if (row)
+            wire_refused("not written", row);
+        at += n;
+    }
+    printf("object %" PRIu32 ": %" PRIu32 " bytes written\n", o.number, at);
+}
+
+/* A lost answer gave the object a version just past the last that was seen. A look under any other version is refused by row 15. */
+static void find(const char *number)
+{
+    struct object o = {.number = (uint32_t)wire_number(number, UINT32_MAX)};
+    struct sievelast_checked result;
+    uint32_t last, unused;
+    uint64_t row = SIEVELAST_ROW_VERSION;
+    load_numbers("last", &last, &unused);
+    for (uint32_t past = 1; row == SIEVELAST_ROW_VERSION && past <= MOST_LOST; past++) {
+        o.version = last + past;
+        row = ask_object(o, (struct sievelast_request){.operation = SIEVELAST_LOOK}, NULL, &result);
+    }
+    if (row)
+        wire_refused("not found", row);
+    struct sievelast_looked looked = sievelast_look_decode(reply + result.start, result.length);
+    o.size = looked.size;
+    save_numbers("last", o.version, 0);
+    save_numbers(object_name(o.number), o.version, o.size);
+    printf("object %" PRIu32 ": %" PRIu32 " bytes, version %" PRIu32 "\n", o.number, o.size, o.version);
+}
+
+static void issue(char **words)
+{
+    struct object o = load_object(words[0]);
+    enum sievelast_operation operation = !strcmp(words[2], "write") ? SIEVELAST_WRITE : SIEVELAST_READ;
+    struct sievelast_credential c = own_credential(operation);
+    uint8_t key[SIEVELAST_KEY_BYTES], credential[SIEVELAST_CREDENTIAL_BYTES];
+    uint64_t minutes = wire_number(words[3], UINT32_MAX);
+    if (operation == SIEVELAST_READ && strcmp(words[2], "read"))
+        wire_wrong(words[2], "neither read nor write");
+    c.slot = SIEVELAST_SLOT_BLACK;
+    c.object = o.number;
+    c.version = o.version;
+    c.end = o.size;
+    c.holder = (uint32_t)wire_number(words[1], UINT32_MAX);
+    c.expiry = wire_milliseconds(CLOCK_REALTIME) + minutes * 60000;
+    load_key("working-key", key);
+    struct sievelast_issued i = sievelast_issue(c, key, sizeof key, credential, sizeof credential);
+    if (i.row)
+        wire_refused("not issued", i.row);
+    save(words[4], credential, sizeof credential);
+    save(words[5], i.key, sizeof i.key);
+    printf("holder %" PRIu32 " may %s object %" PRIu32 ", version %" PRIu32 ", for %" PRIu64 " minutes\n", c.holder, words[2],
+           o.number, o.version, minutes);
+}
+
+int main(int count, char **words)
+{
+    const char *command = count > 2 ? words[1] : "";
+    if (count == 3 && !strcmp(command, "new")) {
+        make(words[2]);
+        return 0;
+    }
+    if (count > 2)
+        enter(words[2]);
+    if (count == 3 && !strcmp(command, "keys"))
+        keys();
+    else if (count == 5 && !strcmp(command, "create"))
+        create(words[3], words[4]);
+    else if (count == 4 && !strcmp(command, "write"))
+        write_shape(words[3]);
+    else if (count == 4 && !strcmp(command, "raise"))
+        raise_version(words[3]);
+    else if (count == 4 && !strcmp(command, "delete"))
+        delete(words[3]);
+    else if (count == 4 && !strcmp(command, "find"))
+        find(words[3]);
+    else if (count == 9 && !strcmp(command, "issue"))
+        issue(words + 3);
+    else
+        wire_wrong("usage", "manager new|keys DIR, create DIR NUMBER SIZE, write|raise|delete|find DIR NUMBER, "
+                            "issue DIR NUMBER HOLDER read|write MINUTES CREDENTIAL KEY");
+    return 0;
+}
