@@ -11,7 +11,7 @@
  *
  * The store's socket is DIR/socket, or where a link of this name points. Files in DIR: master, drive-key, partition-key and
  * working-key (32 bytes each); object-NUMBER (version and size) for each object; last, the greatest version seen; count, which
- * numbers the frames. All have mode 600, as have CREDENTIAL and KEY. A file is replaced whole or not at all.
+ * numbers the frames; lock. All have mode 600, as have CREDENTIAL and KEY. A file is replaced whole or not at all.
  * A `keys` whose answer was lost is simply done again: the keys that sign are not the ones that it changes.
  * Build: cc -Iinclude examples/manager.c target/staticlib/libsolver.a target/staticlib/libstore.a
  */
@@ -90,11 +90,11 @@ static void randomize(uint8_t *bytes, size_t n)
         wire_fail("random bytes");
 }
 
-/* The directory, ours alone until the program ends. */
+/* The directory, ours alone until the program ends: a second manager waits. */
 static void enter(const char *name)
 {
     dir = name;
-    int f = open(name, O_RDONLY | O_DIRECTORY | O_CLOEXEC);
+    int f = open(in_dir("lock"), O_RDWR | O_CREAT | O_CLOEXEC, 0600);
     if (f < 0 || flock(f, LOCK_EX))
         wire_fail(name);
 }

@@ -1,0 +1,255 @@
+#!/bin/sh
+# The example programs, end to end: a store in a file behind a socket, its file manager, its solver, and clients that misbehave.
+#
+#   tests/c/store.sh [FLAG..]      builds them with FLAGs added (-fsanitize=address,undefined ..) and plays them; some seconds
+#
+# Each step prints a line. The first answer that is not as it must be is printed beside the one expected, and the status is 1.
+# EXAMPLES=directory plays the programs of another directory than examples/ (tests/c/wrong-stores), SEED=number other junk.
+set -eu
+cd "$(dirname "$0")/../.."
+examples=${EXAMPLES:-examples}
+archives='target/staticlib/libsolver.a target/staticlib/libstore.a'
+out=$(mktemp -d)
+server=
+finish() {
+    [ -z "$server" ] || kill -KILL "$server" 2>/dev/null || true
+    rm -rf "$out"
+}
+trap finish EXIT
+trap 'exit 1' INT TERM
+
+build() { ${CC:-cc} -O2 -Wall -Wextra -Werror $flags -Iinclude -I"$examples" "$@" $archives; }
+flags=$*
+for program in store manager solver; do
+    build "$examples/$program.c" -o "$out/$program"
+done
+build tests/c/clients.c -o "$out/clients"
+# a store whose every first call is stopped in the middle
+build "$examples/store.c" tests/c/stopped.c -Wl,--wrap=sievelast_gate_parts -o "$out/stopped"
+cd "$out"
+timeout=500
+places=32
+mebibyte=1048576
+
+say() { echo "store: $*"; }
+fail() {
+    echo "store: FAILED: $*"
+    [ ! -s said ] || sed 's/^/store: the server said: /' said
+    exit 1
+}
+# is WHAT EXPECTED CAME
+is() { [ "$2" = "$3" ] || fail "$1: expected '$2', came '$3'"; }
+# same WHAT EXPECTED-FILE CAME-FILE
+same() { cmp "$2" "$3" >differs 2>&1 || fail "$1: expected the bytes of $2, came those of $3: $(cat differs)"; }
+# granted WHAT COMMAND..: the command must be granted what it asks for
+granted() {
+    granted_what=$1
+    shift
+    "$@" >printed 2>errors || fail "$granted_what: expected a grant, came '$(cat errors printed)'"
+}
+# row N WHAT COMMAND..: the command must be refused by row N
+row() {
+    row_number=$1 row_what=$2 row_status=0
+    shift 2
+    "$@" >printed 2>errors || row_status=$?
+    is "$row_what" "row $row_number, status 1" "$(sed -n 's/.*: \(row [0-9]*\),.*/\1/p' errors), status $row_status"
+}
+# wrong TEXT WHAT COMMAND..: the command must end with status 2 and say TEXT
+wrong() {
+    wrong_text=$1 wrong_what=$2 wrong_status=0
+    shift 2
+    "$@" >printed 2>errors || wrong_status=$?
+    is "$wrong_what" "status 2" "status $wrong_status"
+    grep -q "$wrong_text" errors || fail "$wrong_what: expected '$wrong_text', came '$(cat errors)'"
+}
+# play WHAT ARGUMENT..: a play of the program clients
+play() {
+    play_what=$1
+    shift
+    ./clients "$@" >printed 2>errors || fail "$play_what: $(cat printed errors)"
+}
+serve() {
+    ./"${1:-store}" serve -t $timeout mill/drive mill/socket 2>>said &
+    server=$!
+}
+# ended STATUS: the server has ended, or ends now, with this status
+ended() {
+    ended_status=0
+    wait "$server" 2>/dev/null || ended_status=$?
+    server=
+    is 'status of the server' "$1" "$ended_status"
+}
+stop() {
+    kill -TERM "$server"
+    ended 0
+}
+m() {
+    m_command=$1
+    shift
+    ./manager "$m_command" mill "$@"
+}
+shape() { ./solver shape mill/socket "$1.credential" "$1.key"; }
+milliseconds() { date +%s%3N; }
+
+# ---- a house
+granted 'a new directory' ./manager new mill
+row 24 'a medium of 16,777,217 bytes' ./store format mill/drive 16777217 mill/master mill/drive-key
+printf short >short
+row 26 'a key of 5 bytes' ./store format mill/drive 8388608 mill/master short
+granted format ./store format mill/drive 8388608 mill/master mill/drive-key
+wrong 'File exists' 'format of a drive that is there' ./store format mill/drive 8388608 mill/master mill/drive-key
+is 'modes of files with keys' 600 "$(stat -c %a mill/drive mill/master mill/drive-key | sort -u)"
+serve
+granted keys m keys
+granted create m create 4711 21
+echo 'log 4711, 312 mm top' >log
+granted write m write 4711 <log
+granted issue m issue 4711 7 read 10 first.credential first.key
+is 'modes of what was issued' 600 "$(stat -c %a first.credential first.key mill/working-key | sort -u)"
+granted read shape first
+same 'the shape' log printed
+say 'formatted, keys set, an object made, a shape written and read back'
+
+time=$(milliseconds)
+./solver frame first.credential first.key "$time" 1 21 >frame
+granted 'a frame' ./store send mill/socket <frame
+./solver check first.credential first.key "$time" 1 21 <printed >checked
+same 'the shape that its reply shows' log checked
+row 12 'the same frame again' ./store send mill/socket <frame
+say 'the same frame again: row 12'
+
+stop
+[ ! -e mill/socket ] || fail 'the socket is there after the end'
+serve
+granted 'read after a restart' shape first
+same 'the shape after a restart' log printed
+row 12 'the old frame after a restart' ./store send mill/socket <frame
+say 'a restart: the shape is there, and the old frame is still row 12'
+
+wrong 'another server has it' 'a second server of the drive' ./store serve mill/drive other
+granted 'a second drive' ./store format second 4096 mill/master mill/drive-key
+wrong 'another server listens' "a second drive at a live server's socket" ./store serve second mill/socket
+touch precious
+wrong 'no socket' 'a server where a file is' ./store serve second precious
+[ -f precious ] || fail 'a file was taken for a socket, and is gone'
+granted 'read beside all these' shape first
+say 'no second server for the drive, none at the socket, none over a file'
+
+# spoilt OFFSET TEXT WHAT: a drive's file with another byte at OFFSET is refused
+spoilt() {
+    cp second other
+    printf '\377' | dd of=other bs=1 seek="$1" conv=notrunc 2>dd.errors
+    wrong "$2" "a file of another $3" ./store serve other other-socket
+}
+spoilt 0 "not a drive's file" mark
+spoilt 16 'another version' version
+spoilt 32 'do not fit' 'record size'
+head -c 100 second >other
+wrong "not a drive's file" 'a file cut off' ./store serve other other-socket
+say 'a file of another mark, version or record size, and one cut off: refused'
+
+granted raise m raise 4711
+row 15 'the old credential after a raise' shape first
+granted 'issue after a raise' m issue 4711 7 read 10 next.credential next.key
+granted 'read under the new credential' shape next
+same 'the shape after a raise' log printed
+say 'a raise: the old credential is row 15, a new one reads the shape'
+
+# ---- clients that misbehave
+granted 'create an object of 1 MiB' m create 5 $mebibyte
+granted 'issue to a head' m issue 5 8 write 10 head.credential head.key
+granted 'issue to a solver' m issue 5 9 read 10 reader.credential reader.key
+play 'messages' messages mill/socket
+say "answers are row, length and reply to the byte; an empty frame is row 2"
+play 'junk' junk mill/socket "${SEED:-1}"
+say '200 clients sent junk and broke off; others are answered'
+play 'frames over the bound' overlong mill/socket reader.credential reader.key
+say 'frames over the bound: row 5, and the connection ends'
+head -c $mebibyte /dev/urandom >large
+./clients parts mill/socket head.credential head.key reader.credential reader.key <large >printed 2>errors ||
+    fail "a shape in parts: $(tail -n 1 printed) $(cat errors)"
+same 'a shape of 1 MiB in parts' large printed
+granted 'read 1 MiB' shape reader
+same 'a shape of 1 MiB' large printed
+say '1 MiB written and read back in parts'
+play 'slow clients' stall mill/socket reader.credential reader.key $timeout
+say 'five slow clients were dropped in time, others answered meanwhile'
+# the server's processor time, in ticks of 10 ms
+ticks() { sed 's/.*) //' "/proc/$server/stat" | cut -d ' ' -f 12,13 | tr ' ' '+'; }
+before=$(ticks)
+play 'a crowd' crowd mill/socket reader.credential reader.key $places $timeout
+used=$(($(ticks) - ($before)))
+[ $used -lt 15 ] || fail "processor time while all places are taken: expected under 15 ticks, came $used"
+say "$places clients at once, and more than there are places: all answered, $used ticks of processor time"
+
+# ---- stops
+kill -KILL "$server"
+ended 137
+[ -S mill/socket ] || fail 'a killed server leaves its socket'
+serve
+granted 'read after a kill' shape next
+same 'the shape after a kill' log printed
+stop
+say "a killed server's socket is replaced; its drive is whole"
+
+# broken_off WHAT COMMAND..: the command's call is stopped in the middle, and done again by the next server
+broken_off() {
+    broken_what=$1
+    shift
+    serve stopped
+    wrong 'Connection reset' "$broken_what, broken off" "$@"
+    ended 137
+    : >said
+    serve
+    granted "any frame after $broken_what" m issue 5 9 read 10 reader.credential reader.key
+    row 2 "an empty frame after $broken_what" ./store send mill/socket </dev/null
+    is "calls done again after $broken_what" 1 "$(grep -c 'done again' said)"
+}
+head -c $mebibyte /dev/urandom >large
+broken_off 'a write' m write 5 <large
+granted 'read' shape reader
+same 'the shape of a write broken off' large printed
+stop
+broken_off 'a raise' m raise 5
+granted 'find after a raise' m find 5
+granted 'issue' m issue 5 9 read 10 reader.credential reader.key
+granted 'read' shape reader
+same 'the shape after a raise broken off' large printed
+time=$(milliseconds)
+./solver frame reader.credential reader.key "$time" 2 $mebibyte >frame
+stop
+broken_off 'a read' ./store send mill/socket <frame
+row 12 'the frame of a read broken off' ./store send mill/socket <frame
+stop
+broken_off 'a delete' m delete 5
+row 14 'read of an object deleted' shape reader
+stop
+broken_off 'a create' m create 6 $mebibyte
+granted 'find after a create' m find 6
+granted 'issue' m issue 6 9 read 10 reader.credential reader.key
+granted 'read' shape reader
+head -c $mebibyte /dev/zero >zeros
+same 'the bytes of a create broken off' zeros printed
+stop
+broken_off 'new keys' m keys
+granted 'new keys once more' m keys
+row 9 'a credential under the old working key' shape next
+granted 'issue under the new' m issue 4711 7 read 10 next.credential next.key
+granted 'read under the new' shape next
+same 'the shape under new keys' log printed
+granted 'issue to a head' m issue 6 8 write 10 head.credential head.key
+granted 'issue to a solver' m issue 6 9 read 10 reader.credential reader.key
+stop
+say 'a write, raise, read, delete, create and new key, each stopped in the middle: done again whole'
+
+: >said
+play 'kills' kills ./store mill/drive mill/socket head.credential head.key reader.credential reader.key 8 said
+say "8 kills while writes streamed in, $(cat printed): $(grep -c 'done again' said) calls done again, each shape whole"
+
+./store serve -s mill/drive mill/socket 2>>said &
+server=$!
+granted 'write with -s' m write 4711 <log
+granted 'read with -s' shape next
+same 'the shape with -s' log printed
+stop
+say 'the same with every step on the disk'
