@@ -1,15 +1,33 @@
 #!/bin/sh
-# The example solver, end to end: a frame out, a shape in, and a damaged reply refused. The files of tests/c/example/ were made by
+# The example solver through files: a frame out, a shape in, and a damaged reply refused. The files of tests/c/example/ were made by
 # Python's hmac, which shares nothing with the code under test: a credential with every right on object 5, a key of bytes 0 to 31,
-# the frame of read number 41, the reply to it with a shape of 64 bytes, and that reply with its last byte of the shape changed.
+# the frame of read number 41 at time 1000, the reply to it with a shape of 64 bytes, that shape, and the reply with its last byte
+# of the shape changed.
 set -eu
 in=tests/c/example
 out=$(mktemp -d)
 trap 'rm -rf "$out"' EXIT
-target/solver_example frame $in/credential $in/key 41 >"$out/frame"
+solver() {
+    command=$1
+    shift
+    target/solver_example "$command" $in/credential $in/key "$@"
+}
+solver frame 1000 41 64 >"$out/frame"
 cmp "$out/frame" $in/frame
-target/solver_example shape $in/credential $in/key 41 <$in/reply >"$out/shape"
+solver check 1000 41 64 <$in/reply >"$out/shape"
 cmp "$out/shape" $in/shape
-if target/solver_example shape $in/credential $in/key 41 <$in/damaged >"$out/refused"; then exit 1; fi
-grep -qx 'no shape: row 30' "$out/refused"
-echo 'example: frame, shape and refusal as they must be'
+# refused WHY ARGUMENTS..: no byte of a shape, and the row and its meaning said
+refused() {
+    status=0
+    solver check "$2" "$3" "$4" <"$5" >"$out/shape" 2>"$out/why" || status=$?
+    if [ $status -ne 1 ] || [ -s "$out/shape" ] || ! grep -qx 'no shape: row 30, the reply is not the one that the request calls for' "$out/why"; then
+        echo "example: $1: expected row 30 and no shape, came status $status, '$(cat "$out/why")', $(wc -c <"$out/shape") bytes"
+        exit 1
+    fi
+}
+refused 'a damaged reply' 1000 41 64 $in/damaged
+refused 'the reply to another count' 1000 42 64 $in/reply
+refused 'the reply to another time' 1001 41 64 $in/reply
+refused 'the reply to another length' 1000 41 63 $in/reply
+refused 'no reply' 1000 41 64 /dev/null
+echo 'example: frame, shape and refusals as they must be'

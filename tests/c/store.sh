@@ -90,6 +90,8 @@ m() {
 }
 shape() { ./solver shape mill/socket "$1.credential" "$1.key"; }
 milliseconds() { date +%s%3N; }
+# a server that must not come up; one that does is ended
+no_server() { timeout 5 ./store serve "$@"; }
 
 # ---- a house
 granted 'a new directory' ./manager new mill
@@ -126,11 +128,11 @@ same 'the shape after a restart' log printed
 row 12 'the old frame after a restart' ./store send mill/socket <frame
 say 'a restart: the shape is there, and the old frame is still row 12'
 
-wrong 'another server has it' 'a second server of the drive' ./store serve mill/drive other
+wrong 'another server has it' 'a second server of the drive' no_server mill/drive other
 granted 'a second drive' ./store format second 4096 mill/master mill/drive-key
-wrong 'another server listens' "a second drive at a live server's socket" ./store serve second mill/socket
+wrong 'another server listens' "a second drive at a live server's socket" no_server second mill/socket
 touch precious
-wrong 'no socket' 'a server where a file is' ./store serve second precious
+wrong 'no socket' 'a server where a file is' no_server second precious
 [ -f precious ] || fail 'a file was taken for a socket, and is gone'
 granted 'read beside all these' shape first
 say 'no second server for the drive, none at the socket, none over a file'
@@ -139,13 +141,13 @@ say 'no second server for the drive, none at the socket, none over a file'
 spoilt() {
     cp second other
     printf '\377' | dd of=other bs=1 seek="$1" conv=notrunc 2>dd.errors
-    wrong "$2" "a file of another $3" ./store serve other other-socket
+    wrong "$2" "a file of another $3" no_server other other-socket
 }
 spoilt 0 "not a drive's file" mark
 spoilt 16 'another version' version
 spoilt 32 'do not fit' 'record size'
 head -c 100 second >other
-wrong "not a drive's file" 'a file cut off' ./store serve other other-socket
+wrong "not a drive's file" 'a file cut off' no_server other other-socket
 say 'a file of another mark, version or record size, and one cut off: refused'
 
 granted raise m raise 4711
