@@ -235,12 +235,13 @@ static void raise_version(const char *number)
     note_version(&o, result);
 }
 
+/* An object that is not there was deleted before, and the answer lost. */
 static void delete(const char *number)
 {
     struct object o = load_object(number);
     struct sievelast_checked result;
     uint64_t row = ask_object(o, (struct sievelast_request){.operation = SIEVELAST_DELETE}, NULL, &result);
-    if (row)
+    if (row && row != SIEVELAST_ROW_NO_OBJECT)
         wire_refused("not deleted", row);
     if (unlink(in_dir(object_name(o.number))))
         wire_fail(number);

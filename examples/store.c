@@ -1,8 +1,8 @@
 /* A small store: Sievelast's drive in a file, behind a Unix socket.
  *
- *   store format FILE BYTES MASTER KEY            makes FILE: a drive's record and a medium of BYTES bytes
- *   store serve [-s] [-t MILLISECONDS] FILE SOCKET    answers frames until SIGTERM or SIGINT
- *   store send SOCKET < frame > reply             sends one frame, of any length; the row goes to standard error
+ *   store format FILE BYTES MASTER KEY               makes FILE: a drive's record and a medium of BYTES bytes
+ *   store serve [-s] [-t MILLISECONDS] FILE SOCKET   answers frames until SIGTERM or SIGINT
+ *   store send SOCKET < frame > reply                sends one frame; standard error has the row
  *
  * MASTER and KEY are files of 32 bytes; FILE is made with mode 600, for it holds the drive's keys. wire.h has the messages. Who may
  * connect is what the mode of SOCKET says, which follows the umask; a stranger gets rows. drive_file.h has what a stop in the middle

@@ -6,6 +6,7 @@
  *   clients stall SOCKET CREDENTIAL KEY TIMEOUT             five ways to be slow: each dropped in time, others answered meanwhile
  *   clients crowd SOCKET CREDENTIAL KEY PLACES TIMEOUT      as many clients as there are places, and more
  *   clients parts SOCKET WRITE-CREDENTIAL KEY READ-CREDENTIAL KEY < shape > shape      a shape written and read in small parts
+ *   clients old SOCKET CREDENTIAL KEY AGE < shape           writes a shape by a frame that says it is AGE old
  *   clients kills STORE FILE SOCKET WRITE-CREDENTIAL KEY READ-CREDENTIAL KEY ROUNDS LOG     a server killed while frames stream in
  *
  * Credentials are for an object of OBJECT_BYTES. Times in milliseconds. The status is 1 after the first answer that is not as it must
@@ -19,7 +20,6 @@
 
 #define OBJECT_BYTES SIEVELAST_MOST_DATA_BYTES
 #define NO_ANSWER 1000   /* in the place of a row: the connection ended */
-#define AGE 3000         /* how old a frame says it is, so that the replay memory outlives it in 2 seconds */
 #define LATE 8           /* clients that find no place */
 #define QUIET 100        /* in which nothing may come */
 #define PAUSE 20
@@ -36,6 +36,7 @@ struct message {
 
 static uint8_t reply[SIEVELAST_MOST_REPLY_BYTES], data[OBJECT_BYTES];
 static uint64_t seed = 1;
+static uint64_t age = 3000; /* how old a frame says it is: the replay memory then outlives it in 2 seconds */
 
 static void expect(const char *what, uint64_t expected, uint64_t came)
 {
@@ -87,7 +88,7 @@ static void build(struct message *m, const struct holder *h, enum sievelast_oper
     static uint32_t count;
     uint32_t n = operation == SIEVELAST_WRITE ? length : 0;
     struct sievelast_request r = {.operation = (uint8_t)operation, .level = SIEVELAST_LEVEL_REPLY, .b = length, .data_len = n};
-    r.time = wire_milliseconds(CLOCK_REALTIME) - AGE;
+    r.time = wire_milliseconds(CLOCK_REALTIME) - age;
     r.count = (uint32_t)getpid() << 12 | count++;
     sievelast_request_encode(r, m->request, sizeof m->request);
     struct sievelast_built b = sievelast_build(h->credential, sizeof h->credential, m->request, sizeof m->request, data, n, h->key,
@@ -188,23 +189,33 @@ static void junk(const char *path)
 }
 
 /* ---- frames over the bound */
+/* A good frame that goes on, up to the length said or to twice the bound, as far as the store takes it. */
+static void send_overlong(int s, const struct message *m, uint32_t length)
+{
+    uint8_t head[WIRE_FRAME_HEAD];
+    size_t left = (length < 2 * SIEVELAST_MOST_FRAME_BYTES ? length : 2 * SIEVELAST_MOST_FRAME_BYTES) - m->length;
+    wire_put4(head, length);
+    give(s, head, sizeof head);
+    give(s, m->frame, m->length);
+    for (size_t n; left; left -= n) {
+        n = left < sizeof data ? left : sizeof data;
+        if (!wire_give(s, data, n))
+            return;
+    }
+}
+
 static void overlong(const char *path, const struct holder *h)
 {
     static struct message m;
     static const uint32_t lengths[] = {SIEVELAST_MOST_FRAME_BYTES + 1, SIEVELAST_MOST_FRAME_BYTES + 100000, UINT32_MAX};
-    uint8_t head[WIRE_FRAME_HEAD];
     size_t unused;
     for (int i = 0; i < 3; i++) {
         int s = wire_reach(path);
         build(&m, h, SIEVELAST_READ, 1);
-        wire_put4(head, lengths[i]);
-        give(s, head, sizeof head);
-        give(s, m.frame, m.length);
-        wire_give(s, data, lengths[i] < sizeof data * 2 ? lengths[i] - m.length : sizeof data);
-        wire_give(s, data, lengths[i] < sizeof data * 2 ? 0 : sizeof data);
+        send_overlong(s, &m, lengths[i]);
         expect("row of a frame over the bound", SIEVELAST_ROW_LENGTHS, receive(s, &unused));
-        if (i)
-            expect("end of the connection after it", NO_ANSWER, receive(s, &unused));
+        /* the first was read to its end: the connection goes on */
+        expect("row or no answer after it", i ? NO_ANSWER : SIEVELAST_ROW_FRAME_SHORT, exchange(s, NULL, 0));
         close(s);
     }
 }
@@ -353,6 +364,17 @@ static void parts(const char *path, const struct holder *writer, const struct ho
     expect("bytes printed", OBJECT_BYTES, fwrite(reply + SIEVELAST_REPLY_HEAD_BYTES, 1, OBJECT_BYTES, stdout));
 }
 
+/* ---- a frame that is about to run out */
+static void old(const char *path, const struct holder *writer)
+{
+    static struct message m;
+    expect("bytes of the shape", sizeof data, fread(data, 1, sizeof data, stdin));
+    build(&m, writer, SIEVELAST_WRITE, OBJECT_BYTES);
+    struct wire_answer a = wire_ask(path, m.frame, m.length, reply, sizeof reply);
+    if (a.row)
+        wire_refused("not written", a.row);
+}
+
 /* ---- a server killed while frames stream in */
 static volatile pid_t server;
 
@@ -474,12 +496,16 @@ int main(int count, char **words)
         one = load_holder(words + 3);
         two = load_holder(words + 5);
         parts(words[2], &one, &two);
+    } else if (count == 6 && !strcmp(command, "old")) {
+        one = load_holder(words + 3);
+        age = wire_number(words[5], SIEVELAST_TIME_WINDOW);
+        old(words[2], &one);
     } else if (count == 11 && !strcmp(command, "kills")) {
         one = load_holder(words + 5);
         two = load_holder(words + 7);
         kills(words + 2, &one, &two, wire_number(words[9], 1000));
     } else {
-        wire_wrong("usage", "clients messages|junk|overlong|stall|crowd|parts|kills ..: see the top of clients.c");
+        wire_wrong("usage", "clients messages|junk|overlong|stall|crowd|parts|old|kills ..: see the top of clients.c");
     }
     return 0;
 }

@@ -5,7 +5,6 @@
 #include <signal.h>
 #include <stdlib.h>
 #include <string.h>
-#include <unistd.h>
 
 #define SPOILT 0xee
 
@@ -45,6 +44,6 @@ struct sievelast_answered __wrap_sievelast_gate_parts(uint64_t size, uint64_t *h
     memset(keys, SPOILT, SIEVELAST_RECORD_KEYS / 2);
     memset(tables, SPOILT, SIEVELAST_RECORD_TABLES / 2 * sizeof *tables);
     memset(lengths, SPOILT, SIEVELAST_MEMORIES / 2 * sizeof *lengths);
-    kill(getpid(), SIGKILL);
+    raise(SIGKILL);
     return a;
 }

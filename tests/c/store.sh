@@ -194,7 +194,8 @@ same 'the shape after a kill' log printed
 stop
 say "a killed server's socket is replaced; its drive is whole"
 
-# broken_off WHAT COMMAND..: the command's call is stopped in the middle, and done again by the next server
+# broken_off WHAT COMMAND..: the command's call is stopped in the middle, and done again by the next server after a pause
+pause=0
 broken_off() {
     broken_what=$1
     shift
@@ -202,8 +203,8 @@ broken_off() {
     wrong 'Connection reset' "$broken_what, broken off" "$@"
     ended 137
     : >said
+    sleep $pause
     serve
-    granted "any frame after $broken_what" m issue 5 9 read 10 reader.credential reader.key
     row 2 "an empty frame after $broken_what" ./store send mill/socket </dev/null
     is "calls done again after $broken_what" 1 "$(grep -c 'done again' said)"
 }
@@ -211,6 +212,14 @@ head -c $mebibyte /dev/urandom >large
 broken_off 'a write' m write 5 <large
 granted 'read' shape reader
 same 'the shape of a write broken off' large printed
+stop
+# the window is 5000: half a second after the stop the frame is no longer timely, but the call had been made in time
+head -c $mebibyte /dev/urandom >large
+pause=0.5
+broken_off 'a late write' ./clients old mill/socket head.credential head.key 4700 <large
+pause=0
+granted 'read' shape reader
+same 'the shape of a late write broken off' large printed
 stop
 broken_off 'a raise' m raise 5
 granted 'find after a raise' m find 5
@@ -225,6 +234,7 @@ row 12 'the frame of a read broken off' ./store send mill/socket <frame
 stop
 broken_off 'a delete' m delete 5
 row 14 'read of an object deleted' shape reader
+granted 'a delete once more' m delete 5
 stop
 broken_off 'a create' m create 6 $mebibyte
 granted 'find after a create' m find 6
