@@ -18,10 +18,14 @@
 #include <poll.h>
 #include <signal.h>
 #include <sys/resource.h>
+#include <sys/signalfd.h>
 
 #define MOST_CLIENTS 32
 #define OTHER_FILES 16      /* that the process may have open beside its clients */
 #define TIMEOUT 10000       /* milliseconds */
+#define DOOR MOST_CLIENTS   /* where poll looks: at each client, then at the door and for the end */
+#define ENDING (DOOR + 1)
+#define LOOKS (ENDING + 1)
 #define SPACE (WIRE_ANSWER_HEAD + SIEVELAST_MOST_REPLY_BYTES)
 
 /* A message comes in to `bytes`, then its answer goes out from there. */
@@ -37,8 +41,8 @@ struct client {
 static struct drive_map drive;
 static uint64_t timeout = TIMEOUT;
 static int door;
+static int ending; /* readable once SIGTERM or SIGINT has come */
 static struct client clients[MOST_CLIENTS];
-static volatile sig_atomic_t stopped;
 
 /* ---- a client */
 static void await_message(struct client *c, uint64_t now)
@@ -124,61 +128,51 @@ static void admit(uint64_t now)
         }
 }
 
-/* What to wait for: each client's next bytes, and the door while there is a place. Returns the milliseconds to the next deadline. */
-static uint64_t look_out(struct pollfd looks[MOST_CLIENTS + 1], uint64_t now)
+/* What to wait for: each client's next bytes, the door while there is a place, the end. Returns the milliseconds to the next
+ * deadline. */
+static int look_out(struct pollfd looks[LOOKS], uint64_t now)
 {
     uint64_t wait = timeout;
-    looks[MOST_CLIENTS] = (struct pollfd){.fd = -1, .events = POLLIN};
+    looks[DOOR] = (struct pollfd){.fd = -1, .events = POLLIN};
+    looks[ENDING] = (struct pollfd){.fd = ending, .events = POLLIN};
     for (int i = 0; i < MOST_CLIENTS; i++) {
         struct client *c = &clients[i];
         if (c->socket >= 0 && c->deadline <= now)
             drop(c);
         if (c->socket < 0)
-            looks[MOST_CLIENTS].fd = door;
+            looks[DOOR].fd = door;
         else if (c->deadline - now < wait)
             wait = c->deadline - now;
         looks[i] = (struct pollfd){.fd = c->socket, .events = c->answered ? POLLOUT : POLLIN};
     }
-    return wait;
+    return (int)wait;
 }
 
-static void serve_clients(const sigset_t *while_waiting)
+static void serve_clients(void)
 {
-    struct pollfd looks[MOST_CLIENTS + 1];
-    while (!stopped) {
-        uint64_t wait = look_out(looks, wire_milliseconds(CLOCK_MONOTONIC));
-        struct timespec t = {.tv_sec = (time_t)(wait / 1000), .tv_nsec = (long)(wait % 1000) * 1000000};
-        if (ppoll(looks, MOST_CLIENTS + 1, &t, while_waiting) <= 0)
-            continue;
+    struct pollfd looks[LOOKS];
+    do {
+        if (poll(looks, LOOKS, look_out(looks, wire_milliseconds(CLOCK_MONOTONIC))) < 0 && errno != EINTR)
+            wire_fail("poll");
         uint64_t now = wire_milliseconds(CLOCK_MONOTONIC);
         for (int i = 0; i < MOST_CLIENTS; i++)
             if (looks[i].revents && !(clients[i].answered ? give(&clients[i], now) : take(&clients[i], now)))
                 drop(&clients[i]);
-        if (looks[MOST_CLIENTS].revents)
+        if (looks[DOOR].revents)
             admit(now);
-    }
+    } while (!looks[ENDING].revents);
 }
 
-static void stop(int number)
+/* SIGTERM and SIGINT are looked for after each round, however busy it was, and so never end a call. */
+static void arrange_signals(void)
 {
-    (void)number;
-    stopped = 1;
-}
-
-/* SIGTERM and SIGINT come only while the loop waits, so never within a call. Returns the mask to wait with. */
-static sigset_t arrange_signals(void)
-{
-    struct sigaction ends = {.sa_handler = stop}, ignored = {.sa_handler = SIG_IGN};
-    sigset_t both, before;
+    sigset_t both;
     sigemptyset(&both);
     sigaddset(&both, SIGTERM);
     sigaddset(&both, SIGINT);
-    if (sigprocmask(SIG_BLOCK, &both, &before) || sigaction(SIGTERM, &ends, NULL) || sigaction(SIGINT, &ends, NULL) ||
-        sigaction(SIGPIPE, &ignored, NULL))
+    ending = sigprocmask(SIG_BLOCK, &both, NULL) ? -1 : signalfd(-1, &both, SFD_CLOEXEC);
+    if (ending < 0 || signal(SIGPIPE, SIG_IGN) == SIG_ERR)
         wire_fail("signals");
-    sigdelset(&before, SIGTERM);
-    sigdelset(&before, SIGINT);
-    return before;
 }
 
 /* Removes the socket that a dead server left; not one that a server listens at, nor a file of another kind. */
@@ -221,7 +215,7 @@ static int serve(const char *name, const char *path)
     int synced = drive.synced;
     drive = drive_file_open(name);
     drive.synced = synced;
-    sigset_t while_waiting = arrange_signals();
+    arrange_signals();
     if (drive_file_under_way(&drive)) {
         drive_file_finish(&drive, clients[0].bytes);
         fprintf(stderr, "a call that a stop had broken off is done again\n");
@@ -230,7 +224,7 @@ static int serve(const char *name, const char *path)
         clients[i].socket = -1;
     open_door(path);
     fprintf(stderr, "serving %s at %s\n", name, path);
-    serve_clients(&while_waiting);
+    serve_clients();
     unlink(path);
     fprintf(stderr, "stopped\n");
     return 0;

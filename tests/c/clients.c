@@ -2,6 +2,7 @@
  *
  *   clients messages SOCKET                                 the bytes of a message and its answer; two messages on a connection
  *   clients junk SOCKET SEED                                bytes without sense, messages broken off
+ *   clients flood SOCKET WRITE-CREDENTIAL KEY MOST          costly frames without a pause until the store ends: in time MOST
  *   clients overlong SOCKET CREDENTIAL KEY                  frames over the bound: the row, then the end of the connection
  *   clients stall SOCKET CREDENTIAL KEY TIMEOUT             five ways to be slow: each dropped in time, others answered meanwhile
  *   clients crowd SOCKET CREDENTIAL KEY PLACES TIMEOUT      as many clients as there are places, and more
@@ -20,6 +21,7 @@
 
 #define OBJECT_BYTES SIEVELAST_MOST_DATA_BYTES
 #define NO_ANSWER 1000   /* in the place of a row: the connection ended */
+#define FLOODS 8         /* connections of one flood */
 #define LATE 8           /* clients that find no place */
 #define QUIET 100        /* in which nothing may come */
 #define PAUSE 20
@@ -186,6 +188,37 @@ static void junk(const char *path)
         close(s);
     }
     others_served(path, 1000);
+}
+
+/* ---- a flood of the frames that cost a store most: as long as can be, good in all but the digest */
+static uint8_t wave[WIRE_FRAME_HEAD + SIEVELAST_MOST_FRAME_BYTES];
+
+/* Sends what the socket takes of one message after the other, and takes what answers there are; 0 when the store is gone. */
+static int pour(int s, size_t *at)
+{
+    ssize_t sent = send(s, wave + *at, sizeof wave - *at, MSG_NOSIGNAL | MSG_DONTWAIT);
+    if (sent < 0 && errno != EAGAIN)
+        return 0;
+    if (sent > 0)
+        *at = (*at + (size_t)sent) % sizeof wave;
+    return recv(s, reply, sizeof reply, MSG_DONTWAIT) != 0;
+}
+
+static void flood(const char *path, const struct holder *writer, uint64_t most)
+{
+    static struct message m;
+    int s[FLOODS];
+    size_t at[FLOODS] = {0};
+    build(&m, writer, SIEVELAST_WRITE, OBJECT_BYTES);
+    m.frame[m.length - 1] ^= 1;
+    wire_put4(wave, (uint32_t)m.length);
+    memcpy(wave + WIRE_FRAME_HEAD, m.frame, m.length);
+    for (int i = 0; i < FLOODS; i++)
+        s[i] = wire_reach(path);
+    uint64_t start = now();
+    for (int i = 0; pour(s[i], &at[i]); i = (i + 1) % FLOODS)
+        if (now() - start >= most)
+            expect_between("end of the store under a flood", 0, most - 1, now() - start);
 }
 
 /* ---- frames over the bound */
@@ -482,6 +515,9 @@ int main(int count, char **words)
     } else if (count == 4 && !strcmp(command, "junk")) {
         seed = wire_number(words[3], UINT32_MAX) + 1;
         junk(words[2]);
+    } else if (count == 6 && !strcmp(command, "flood")) {
+        one = load_holder(words + 3);
+        flood(words[2], &one, wire_number(words[5], UINT32_MAX));
     } else if (count == 5 && !strcmp(command, "overlong")) {
         one = load_holder(words + 3);
         overlong(words[2], &one);
@@ -505,7 +541,7 @@ int main(int count, char **words)
         two = load_holder(words + 7);
         kills(words + 2, &one, &two, wire_number(words[9], 1000));
     } else {
-        wire_wrong("usage", "clients messages|junk|overlong|stall|crowd|parts|old|kills ..: see the top of clients.c");
+        wire_wrong("usage", "clients messages|junk|flood|overlong|stall|crowd|parts|old|kills ..: see the top of clients.c");
     }
     return 0;
 }

@@ -11,8 +11,11 @@ examples=${EXAMPLES:-examples}
 archives='target/staticlib/libsolver.a target/staticlib/libstore.a'
 out=$(mktemp -d)
 server=
+flood=
 finish() {
-    [ -z "$server" ] || kill -KILL "$server" 2>/dev/null || true
+    for process in $server $flood; do
+        kill -KILL "$process" 2>/dev/null || true
+    done
     rm -rf "$out"
 }
 trap finish EXIT
@@ -117,6 +120,9 @@ time=$(milliseconds)
 granted 'a frame' ./store send mill/socket <frame
 ./solver check first.credential first.key "$time" 1 21 <printed >checked
 same 'the shape that its reply shows' log checked
+cp printed damaged
+printf '\377' | dd of=damaged bs=1 seek=28 conv=notrunc 2>dd.errors # 8 bytes of head, 21 of shape
+row 30 'its reply with the last byte of the shape changed' ./solver check first.credential first.key "$time" 1 21 <damaged
 row 12 'the same frame again' ./store send mill/socket <frame
 say 'the same frame again: row 12'
 
@@ -150,7 +156,9 @@ head -c 100 second >other
 wrong "not a drive's file" 'a file cut off' no_server other other-socket
 say 'a file of another mark, version or record size, and one cut off: refused'
 
+before=$(cut -d ' ' -f 1 mill/count)
 granted raise m raise 4711
+is "the manager's count after a frame" $((before + 1)) "$(cut -d ' ' -f 1 mill/count)"
 row 15 'the old credential after a raise' shape first
 granted 'issue after a raise' m issue 4711 7 read 10 next.credential next.key
 granted 'read under the new credential' shape next
@@ -183,6 +191,19 @@ play 'a crowd' crowd mill/socket reader.credential reader.key $places $timeout
 used=$(($(ticks) - ($before)))
 [ $used -lt 15 ] || fail "processor time while all places are taken: expected under 15 ticks, came $used"
 say "$places clients at once, and more than there are places: all answered, $used ticks of processor time"
+
+./clients flood mill/socket head.credential head.key 3000 >flooded 2>&1 &
+flood=$!
+sleep 0.2
+play 'messages beside a flood' messages mill/socket
+granted 'read beside a flood' shape reader
+stop
+wait $flood || fail "a flood: $(cat flooded)"
+flood=
+serve
+granted 'read after a flood' shape next
+same 'the shape after a flood' log printed
+say 'a client that floods: others are answered, and the server ends when asked to'
 
 # ---- stops
 kill -KILL "$server"
