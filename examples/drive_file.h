@@ -66,7 +66,8 @@ static inline struct drive_map drive_file_map(const char *name, int f, size_t si
     uint8_t *at = mmap(NULL, size, PROT_READ | PROT_WRITE, MAP_SHARED, f, 0);
     if (at == MAP_FAILED)
         wire_fail(name);
-    return (struct drive_map){.file = (struct drive_file *)at, .medium = at + DRIVE_FILE_MEDIUM, .medium_len = size - DRIVE_FILE_MEDIUM};
+    return (struct drive_map){
+        .file = (struct drive_file *)at, .medium = at + DRIVE_FILE_MEDIUM, .medium_len = size - DRIVE_FILE_MEDIUM};
 }
 
 /* A new file, with every byte of it had from the disk; or the row for which there is none. Its mark is written last. */

@@ -29,7 +29,9 @@ static struct sievelast_credential load_credential(const char *credential_name, 
 /* Builds the frame of a read at level 2: the reply carries a digest too, without which no byte of it may be believed. */
 static size_t build(uint32_t first, uint32_t length, uint64_t time, uint32_t count)
 {
-    struct sievelast_request r = {.operation = SIEVELAST_READ, .level = SIEVELAST_LEVEL_REPLY, .time = time, .count = count, .a = first, .b = length};
+    struct sievelast_request r = {.operation = SIEVELAST_READ, .level = SIEVELAST_LEVEL_REPLY, .a = first, .b = length};
+    r.time = time;
+    r.count = count;
     sievelast_request_encode(r, request, sizeof request);
     struct sievelast_built b = sievelast_build(credential, sizeof credential, request, sizeof request, NULL, 0, key, sizeof key,
                                                frame, sizeof frame);

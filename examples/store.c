@@ -10,8 +10,8 @@
  * Build: cc -Iinclude examples/store.c target/staticlib/libstore.a
  *
  * A client has the time of -t for each message: to begin it, and from its first byte until the answer is taken. It holds one
- * place of MOST_CLIENTS and one buffer, no allocation grows, and a round of the loop gives each client one read or write. Where all
- * places are taken, others wait at the door, and a client that has its answer makes room.
+ * place of MOST_CLIENTS and one buffer, nothing is allocated, and a round of the loop gives each client one read, one call of the
+ * gate and one write at most. Where all places are taken, others wait at the door, and a client that has its answer makes room.
  */
 #include "drive_file.h"
 #include <libgen.h>
@@ -45,12 +45,17 @@ static int ending; /* readable once SIGTERM or SIGINT has come */
 static struct client clients[MOST_CLIENTS];
 
 /* ---- a client */
-static void await_message(struct client *c, uint64_t now)
+static uint64_t new_deadline(void)
+{
+    return wire_milliseconds(CLOCK_MONOTONIC) + timeout;
+}
+
+static void await_message(struct client *c)
 {
     c->answered = c->last = 0;
     c->moved = 0;
     c->whole = WIRE_FRAME_HEAD;
-    c->deadline = now + timeout;
+    c->deadline = new_deadline();
 }
 
 static void drop(struct client *c)
@@ -71,26 +76,6 @@ static void answer(struct client *c)
     c->whole = WIRE_ANSWER_HEAD + a.length;
 }
 
-/* Takes what is there of a message; 0 when the client is to go. Of a frame over the bound only the start is read, which is enough
- * to answer it; as the rest is still on its way, the connection ends with that answer. */
-static int take(struct client *c, uint64_t now)
-{
-    ssize_t got = read(c->socket, c->bytes + c->moved, c->whole - c->moved);
-    if (got <= 0)
-        return got < 0 && (errno == EAGAIN || errno == EINTR);
-    if (c->moved == 0)
-        c->deadline = now + timeout;
-    c->moved += (size_t)got;
-    if (c->moved == WIRE_FRAME_HEAD) {
-        uint32_t length = wire_get4(c->bytes);
-        c->last = length > DRIVE_FILE_BOUND;
-        c->whole += c->last ? DRIVE_FILE_BOUND : length;
-    }
-    if (c->moved == c->whole)
-        answer(c);
-    return 1;
-}
-
 /* Whether somebody waits for a place. The loop does not watch the door while there is none. */
 static int crowded(void)
 {
@@ -102,7 +87,7 @@ static int crowded(void)
 }
 
 /* Gives what the client takes of its answer; 0 when the client is to go. */
-static int give(struct client *c, uint64_t now)
+static int give(struct client *c)
 {
     ssize_t gone = write(c->socket, c->bytes + c->moved, c->whole - c->moved);
     if (gone < 0)
@@ -112,27 +97,48 @@ static int give(struct client *c, uint64_t now)
         return 1;
     if (c->last || crowded())
         return 0;
-    await_message(c, now);
+    await_message(c);
     return 1;
 }
 
+/* Takes what is there of a message, and answers one that is whole; 0 when the client is to go. Of a frame over the bound only the
+ * start is read, which is enough to answer it; as the rest is still on its way, the connection ends with that answer. */
+static int take(struct client *c)
+{
+    ssize_t got = read(c->socket, c->bytes + c->moved, c->whole - c->moved);
+    if (got <= 0)
+        return got < 0 && (errno == EAGAIN || errno == EINTR);
+    if (c->moved == 0)
+        c->deadline = new_deadline();
+    c->moved += (size_t)got;
+    if (c->moved == WIRE_FRAME_HEAD) {
+        uint32_t length = wire_get4(c->bytes);
+        c->last = length > DRIVE_FILE_BOUND;
+        c->whole += c->last ? DRIVE_FILE_BOUND : length;
+    }
+    if (c->moved < c->whole)
+        return 1;
+    answer(c);
+    return give(c);
+}
+
 /* ---- the loop */
-static void admit(uint64_t now)
+static void admit(void)
 {
     int s = accept4(door, NULL, NULL, SOCK_NONBLOCK | SOCK_CLOEXEC);
     for (int i = 0; s >= 0 && i < MOST_CLIENTS; i++)
         if (clients[i].socket < 0) {
             clients[i].socket = s;
-            await_message(&clients[i], now);
+            await_message(&clients[i]);
             return;
         }
 }
 
-/* What to wait for: each client's next bytes, the door while there is a place, the end. Returns the milliseconds to the next
- * deadline. */
-static int look_out(struct pollfd looks[LOOKS], uint64_t now)
+/* What to wait for: each client's next bytes, the door while there is a place, the end. Clients past their deadline go. Returns the
+ * milliseconds to the next deadline. */
+static int look_out(struct pollfd looks[LOOKS])
 {
-    uint64_t wait = timeout;
+    uint64_t now = wire_milliseconds(CLOCK_MONOTONIC), wait = timeout;
     looks[DOOR] = (struct pollfd){.fd = -1, .events = POLLIN};
     looks[ENDING] = (struct pollfd){.fd = ending, .events = POLLIN};
     for (int i = 0; i < MOST_CLIENTS; i++) {
@@ -152,14 +158,13 @@ static void serve_clients(void)
 {
     struct pollfd looks[LOOKS];
     do {
-        if (poll(looks, LOOKS, look_out(looks, wire_milliseconds(CLOCK_MONOTONIC))) < 0 && errno != EINTR)
+        if (poll(looks, LOOKS, look_out(looks)) < 0 && errno != EINTR)
             wire_fail("poll");
-        uint64_t now = wire_milliseconds(CLOCK_MONOTONIC);
         for (int i = 0; i < MOST_CLIENTS; i++)
-            if (looks[i].revents && !(clients[i].answered ? give(&clients[i], now) : take(&clients[i], now)))
+            if (looks[i].revents && !(clients[i].answered ? give(&clients[i]) : take(&clients[i])))
                 drop(&clients[i]);
         if (looks[DOOR].revents)
-            admit(now);
+            admit();
     } while (!looks[ENDING].revents);
 }
 

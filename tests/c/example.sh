@@ -16,12 +16,14 @@ solver frame 1000 41 64 >"$out/frame"
 cmp "$out/frame" $in/frame
 solver check 1000 41 64 <$in/reply >"$out/shape"
 cmp "$out/shape" $in/shape
-# refused WHY ARGUMENTS..: no byte of a shape, and the row and its meaning said
+# refused WHAT TIME COUNT LENGTH REPLY: no byte of a shape, the row and its meaning, and status 1
 refused() {
     status=0
     solver check "$2" "$3" "$4" <"$5" >"$out/shape" 2>"$out/why" || status=$?
-    if [ $status -ne 1 ] || [ -s "$out/shape" ] || ! grep -qx 'no shape: row 30, the reply is not the one that the request calls for' "$out/why"; then
-        echo "example: $1: expected row 30 and no shape, came status $status, '$(cat "$out/why")', $(wc -c <"$out/shape") bytes"
+    expected='no shape: row 30, the reply is not the one that the request calls for; 0 bytes, status 1'
+    came="$(cat "$out/why"); $(wc -c <"$out/shape") bytes, status $status"
+    if [ "$came" != "$expected" ]; then
+        echo "example: $1: expected '$expected', came '$came'"
         exit 1
     fi
 }
