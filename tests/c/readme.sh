@@ -4,7 +4,11 @@
 set -eu
 root=$(cd "$(dirname "$0")/../.." && pwd)
 out=$(mktemp -d)
-trap 'rm -rf "$out"' EXIT
+finish() {
+    [ ! -f "$out/server" ] || kill "$(cat "$out/server")" 2>/dev/null || true
+    rm -rf "$out"
+}
+trap finish EXIT
 trap 'exit 1' INT TERM
 # block N: the Nth indented block of the section
 block() {
@@ -25,10 +29,10 @@ mkdir "$out/clone" "$out/clone/target"
 ln -s "$root/include" "$root/examples" "$out/clone/"
 ln -s "$root/target/staticlib" "$out/clone/target/staticlib"
 cd "$out/clone"
-# the server, the last that was put into the background, ends as a shell's `kill %1` ends it
+# the server's number is noted where it is put into the background; at the end it is ended as a shell's `kill %1` ends it
 {
-    sed 1d "$out/commands"
-    echo 'kill $!; wait $!'
+    sed "1d; s| &\$| \& echo \$! >$out/server|" "$out/commands"
+    echo "kill \$!; wait \$!; rm $out/server"
 } >"$out/play"
 echo stopped >>"$out/expected"
 status=0
