@@ -30,8 +30,8 @@
 #define WIRE_FRAME_HEAD 4
 #define WIRE_ANSWER_HEAD 8
 #define WIRE_PATIENCE 30      /* seconds that a client waits for the store to take or to give a byte */
-#define WIRE_TRIES 60         /* how often a client tries to reach a store that is not there, or just starts .. */
-#define WIRE_PAUSE 50000000   /* .. and the nanoseconds between two tries */
+#define WIRE_TRIES 150        /* how often a client tries to reach a store that is not there, or just starts .. */
+#define WIRE_PAUSE 20000000   /* .. and the nanoseconds between two tries */
 #define WIRE_FIRST_VERSION 1  /* the version with which the examples format a drive */
 
 struct wire_answer {

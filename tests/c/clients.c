@@ -401,9 +401,13 @@ static void parts(const char *path, const struct holder *writer, const struct ho
 static void old(const char *path, const struct holder *writer)
 {
     static struct message m;
+    struct wire_answer a;
     expect("bytes of the shape", sizeof data, fread(data, 1, sizeof data, stdin));
+    int s = wire_reach(path);
     build(&m, writer, SIEVELAST_WRITE, OBJECT_BYTES);
-    struct wire_answer a = wire_ask(path, m.frame, m.length, reply, sizeof reply);
+    wire_send(s, m.frame, m.length);
+    if (!wire_receive(s, &a, reply, sizeof reply))
+        wire_fail(path);
     if (a.row)
         wire_refused("not written", a.row);
 }

@@ -234,10 +234,10 @@ broken_off 'a write' m write 5 <large
 granted 'read' shape reader
 same 'the shape of a write broken off' large printed
 stop
-# the window is 5000: half a second after the stop the frame is no longer timely, but the call had been made in time
+# the window is 5000: when the next server starts, the frame is no longer timely, but the call had been made in time
 head -c $mebibyte /dev/urandom >large
-pause=0.5
-broken_off 'a late write' ./clients old mill/socket head.credential head.key 4700 <large
+pause=0.7
+broken_off 'a late write' ./clients old mill/socket head.credential head.key 4500 <large
 pause=0
 granted 'read' shape reader
 same 'the shape of a late write broken off' large printed
