@@ -13,7 +13,7 @@
  * A call is whole only once it has returned. A program stopped within a grant leaves medium and record as far as the call came:
  * some of the medium's bytes, the keys and the tables may be new while the nonce is not yet entered. Until the drive covers
  * that itself (change 14 of its requests), the caller must keep the frame and a copy of the record from before the call to do it
- * again: examples/store.c shows how. A refused format leaves the medium and overwrites the record.
+ * again: examples/drive_file.h shows how. A refused format leaves the medium and overwrites the record.
  */
 #ifndef SIEVELAST_STORE_H
 #define SIEVELAST_STORE_H
@@ -25,7 +25,8 @@ extern "C" {
 #endif
 
 /* ---- the record */
-#define SIEVELAST_RECORD_KEYS 462   /* bytes: 14 keys of 32, and for each one that says whether it was set */
+#define SIEVELAST_RECORD_KEYS 462   /* bytes: 14 keys of 32 (working keys 0 of the four partitions, working keys 1, partition keys, drive
+                                       key, master key), and for each one that says whether it was set */
 #define SIEVELAST_RECORD_TABLES 268 /* numbers: for each partition version, last version given, count of objects, and 16 each of
                                        number, version, size, start */
 #define SIEVELAST_RECORD_PLACES 320 /* entries: 64 for each replay memory */

@@ -48,9 +48,10 @@ status=0
 "$root/tools/install" 2>said || status=$?
 [ "$status" -eq 2 ] || fail "without PREFIX the status is $status"
 
-# ---- an archive that is missing is built by rt, here one that copies it; where that fails nothing is installed
-mkdir tree bin
-cp -r "$root/include" "$root/tools" tree
+# ---- an archive that is missing or older than the code is built by rt, here one that copies it; where that fails nothing is
+# installed
+mkdir -p tree/crates/solver bin
+cp -r "$root/include" "$root/tools" "$root/crates.txt" tree
 cat >bin/rt <<EOT
 #!/bin/sh
 [ "\$1" = staticlib ] && mkdir -p target/staticlib && cp "$root/target/staticlib/lib\$2.a" target/staticlib
@@ -58,6 +59,11 @@ EOT
 chmod +x bin/rt
 PATH=$work/bin:$PATH tree/tools/install made >said
 holds made "$work/made"
+echo old >tree/target/staticlib/libsolver.a
+touch -d '1 hour ago' tree/target/staticlib/libsolver.a
+touch tree/crates/solver/lib.rt
+PATH=$work/bin:$PATH tree/tools/install again >said
+holds again "$work/again"
 rm tree/target/staticlib/libstore.a
 echo 'exit 1' >bin/rt
 ! PATH=$work/bin:$PATH tree/tools/install refused >said || fail 'it goes on where rt fails'
