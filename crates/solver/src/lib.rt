@@ -1,6 +1,9 @@
-// The frame builder and the reply check for the cutting solver, which is written in C. include/sievelast.h declares them.
+// The client end for the cutting solver, which is written in C: frame builder and reply check here, the records' encoders and
+// decoders in `codec`. include/sievelast.h declares all of them.
 ghost use mathlib.Core.Path.{_≡_};
 ghost use Rattle.solver.specs.Exported.{builtOf, spaceAfter, checkedOf};
+
+pub mod codec;
 
 // The builder's answer: row 0 and the frame's length, or the row and length 0.
 #[repr(C)]

@@ -1,0 +1,2 @@
+-- A request put into a lent slice.
+pub mod Put
