@@ -29,10 +29,6 @@ module _ {A D : Type 0} (s : List ℕ) (size : ℕ) (there none : A) (wrong : A 
     told : cond (length s isnt size || wrong x) no (of x) ≡ cond (length s isnt size || wrong there) no (of there)
     told = ap (λ (y : A). cond (length s isnt size || wrong y) no (of y)) is-read ∙ same-answer
 
-    pub decoded-refused : (length s isnt size || wrong x) ≡ true
-        → no ≡ cond (length s isnt size || wrong there) no (of there)
-    decoded-refused t = ap (λ (b : Bool). cond b no (of x)) (sym t) ∙ told
-
-    pub decoded-taken : (length s isnt size || wrong x) ≡ false
-        → of x ≡ cond (length s isnt size || wrong there) no (of there)
-    decoded-taken t = ap (λ (b : Bool). cond b no (of x)) (sym t) ∙ told
+    pub decoded-by : (b : Bool) → (length s isnt size || wrong x) ≡ b
+        → cond b no (of x) ≡ cond (length s isnt size || wrong there) no (of there)
+    decoded-by b t = ap (λ (y : Bool). cond y no (of x)) (sym t) ∙ told

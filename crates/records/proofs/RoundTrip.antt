@@ -2,10 +2,10 @@
 -- s: a space, or a record's bytes; each is below 256.
 use mathlib.Core.Path.{_≡_, refl, sym, ap, _∙_}
 use mathlib.Core.Bool.{_||_, Bool, cond, false, true}
-use mathlib.Core.List.{List, [], _∷_, _++_, append-nil}
+use mathlib.Core.List.{List, [], _++_, append-nil}
 use Prim.Native.Nat.{ℕ, _<_, _≤_, _^_}
 use native.Mathlib.Omega.{arith}
-use lib.Dec.{leb, ltb}
+use lib.Dec.{leb}
 use lib.ListN.{getD, length, length-append, take}
 use lib.Seq.{take-all}
 use borrow.Author.Tests.{eqb-true, le-leb, ltb-false, not-false}
@@ -14,7 +14,6 @@ use Rattle.lemmas.specs.Parts.{splice-front}
 use Rattle.lemmas.specs.Tests.{_isnt_, _under_, or-l, or-r}
 use Rattle.lemmas.specs.BigEndian.{
   bigEndian,
-  encode,
   layoutSize,
   length-bigEndian,
   length-encode,
@@ -46,8 +45,6 @@ use Rattle.records.specs.declared.CredentialFields.{CredentialFields}
 use Rattle.records.specs.declared.RequestFields.{RequestFields}
 use Rattle.records.specs.declared.CredentialDecoded.{CredentialDecoded}
 use Rattle.records.specs.declared.RequestDecoded.{RequestDecoded}
-use Rattle.records.specs.declared.LookDecoded.{LookDecoded}
-use Rattle.records.specs.declared.VersionDecoded.{VersionDecoded}
 use Rattle.records.specs.Coding.{
   CredentialFits,
   RequestFits,

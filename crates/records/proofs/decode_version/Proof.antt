@@ -5,13 +5,13 @@ use Rattle.records.specs.Coding.{versionDecoded}
 use Rattle.records.proofs.decode_version.Statement.{statement}
 use Rattle.records.proofs.decode_version.Tie as tie
 
-returns : tie.Need-returns
-unfolding versionDecoded
-returns c = rw (ne-eqb _ _ (c .if1 .taken))
-
 returns-2 : tie.Need-returns-2
 unfolding versionDecoded
 returns-2 c = rw (c .number .ensures .0, c .before .if1 .left)
+
+returns : tie.Need-returns
+unfolding versionDecoded
+returns c = rw (ne-eqb _ _ (c .if1 .taken))
 
 pub decode-version-spec : {M : Type 1} → statement M
 decode-version-spec =

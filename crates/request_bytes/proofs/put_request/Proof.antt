@@ -1,5 +1,4 @@
 -- `request_bytes::put_request` meets its contract: widths and numbers are the request's layout.
-use native.Mathlib.Omega.{arith}
 use borrow.Author.Needs.{needs}
 use Rattle.lemmas.specs.Lists.{every}
 use Rattle.lemmas.specs.BigEndian.{layoutSize}
