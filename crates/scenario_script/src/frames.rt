@@ -40,7 +40,7 @@ pub fn four(x: u64) -> u32 {
 
 fn credential_of(n: [u64; NUMBERS]) -> Credential {
     Credential {
-        magic: 0x4c43,
+        magic: record_rows::CREDENTIAL_MAGIC,
         partition: one(n[PARTITION]),
         slot: one(n[SLOT]),
         object: four(n[OBJECT]),
@@ -64,39 +64,24 @@ fn b_of(n: [u64; NUMBERS], count: usize) -> u64 {
     }
 }
 
-// A request's 28 bytes of its eight numbers, each in as many bytes as its width.
-fn request_bytes(numbers: [u64; 8], widths: [usize; 8]) -> [u8; 28]
-    ensures { λ r. ⌜ 28 ≡ length r ⌝ }
-{
-    let mut bytes = [0u8; 28];
-    let mut at: usize = 0;
-    let mut i: usize = 0;
-    while i < 8 {
-        octets::put(&mut bytes, at, widths[i], numbers[i]);
-        at = std::num::wrapping_add_usize(at, widths[i]);
-        i += 1;
-    }
-    bytes
-}
-
-// The line's request, with so many data bytes.
+// The 28 bytes of the line's request, with so many data bytes.
 fn request_of(n: [u64; NUMBERS], count: usize) -> [u8; 28]
     ensures { λ r. ⌜ 28 ≡ length r ⌝ }
 {
-    let b = b_of(n, count);
-    request_bytes(
-        [
-            0x4c52,
-            n[WORD],
-            n[LEVEL],
-            n[TIME],
-            n[COUNT],
-            n[A],
-            b,
-            count as u64,
-        ],
-        [2, 1, 1, 8, 4, 4, 4, 4],
-    )
+    let mut bytes = [0u8; 28];
+    let widths = fields::REQUEST_WIDTHS;
+    let v: [u64; fields::REQUEST_FIELDS] = [
+        record_rows::REQUEST_MAGIC as u64,
+        n[WORD],
+        n[LEVEL],
+        n[TIME],
+        n[COUNT],
+        n[A],
+        b_of(n, count),
+        count as u64,
+    ];
+    octets::layout::write(&mut bytes, 0, &widths, &v);
+    bytes
 }
 
 // Writes the frame of a line into space, and answers its length, 0 where it is refused: the credential's issuer and the

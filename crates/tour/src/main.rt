@@ -4,6 +4,8 @@ ghost use lib.ListN.{length};
 use digest::mac;
 use drive::Drive;
 use lemmas::smaller;
+use records::CredentialFields;
+use records::RequestFields;
 use rules::Credential;
 
 mod say;
@@ -13,20 +15,18 @@ const NOW: u64 = 1000;
 
 // Every right to an object of partition 0, under the key in a slot, to holder 9, for a minute.
 fn every_right(slot: u8, object: u32, version: u32) -> Credential {
-    Credential {
-        magic: 0x4c43,
-        partition: 0,
-        slot,
+    records::credential_from(CredentialFields {
+        expiry: NOW + 60000,
         object,
         version,
-        rights: 0x7f,
-        least: 0,
-        zero: 0,
         first: 0,
         end: 20,
-        expiry: NOW + 60000,
         holder: 9,
-    }
+        rights: 0x7f,
+        partition: 0,
+        slot,
+        least: 0,
+    })
 }
 
 // The 28 bytes of a request at level 2; requests of the same time differ in `count`.
@@ -34,14 +34,16 @@ fn request_of(operation: u8, count: u32, a: u32, b: u32, n: u32) -> [u8; 28]
     ensures { λ r. ⌜ 28 ≡ length r ⌝ }
 {
     let mut bytes = [0u8; 28];
-    octets::put(&mut bytes, 0, 2, 0x4c52);
-    octets::put(&mut bytes, 2, 1, operation as u64);
-    octets::put(&mut bytes, 3, 1, 2);
-    octets::put(&mut bytes, 4, 8, NOW);
-    octets::put(&mut bytes, 12, 4, count as u64);
-    octets::put(&mut bytes, 16, 4, a as u64);
-    octets::put(&mut bytes, 20, 4, b as u64);
-    octets::put(&mut bytes, 24, 4, n as u64);
+    let fields = RequestFields {
+        time: NOW,
+        count,
+        a,
+        b,
+        n,
+        operation,
+        level: 2,
+    };
+    records::encode_request(fields, &mut bytes);
     bytes
 }
 
