@@ -1,5 +1,5 @@
--- Encoded and decoded again, and decoded and encoded again: the same. From what the calls promise alone.
--- s: a space, or a record's bytes; each is below 256.
+-- Fields encoded and decoded again are the same fields; a record decoded and encoded again is the same bytes. From what the
+-- calls promise alone. s: what is lent, a space to the encoders, a record to the decoders.
 use mathlib.Core.Path.{_≡_, refl, sym, ap, _∙_}
 use mathlib.Core.Bool.{_||_, Bool, cond, false, true}
 use mathlib.Core.List.{List, [], _++_, append-nil}

@@ -138,7 +138,7 @@ fn request_fields(r: rules::Request) -> RequestFields
     }
 }
 
-// Zeros.
+// What a refused record has for fields: zeros.
 fn no_credential() -> CredentialFields
     ensures { λ r. ⌜ r ≡ noCredential ⌝ }
 {
