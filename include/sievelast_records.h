@@ -216,7 +216,7 @@ struct sievelast_looked {
 
 struct sievelast_versioned {
     uint64_t row;     /* 0, or 28: the result is not 4 bytes long */
-    uint64_t version; /* the new version; 0 when refused */
+    uint32_t version; /* the new version; 0 when refused */
 };
 
 /* A look's result, and that of a raise or a create. */

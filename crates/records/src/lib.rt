@@ -67,7 +67,7 @@ pub struct LookDecoded {
 #[repr(C)]
 pub struct VersionDecoded {
     pub row: u64,
-    pub version: u64,
+    pub version: u32,
 }
 
 // The credential that has those fields.
@@ -254,8 +254,9 @@ pub fn decode_version(bytes: &[u8]) -> VersionDecoded
             version: 0,
         };
     }
+    let version = octets::number(bytes, 0, VERSION_SIZE);
     VersionDecoded {
         row: 0,
-        version: octets::number(bytes, 0, VERSION_SIZE),
+        version: version as u32,
     }
 }

@@ -1,2 +1,2 @@
--- The issuer's and the digest's answers in numbers.
+-- The issuer's and the digest's answers, of what C sees of them.
 pub mod Exported

@@ -4,12 +4,14 @@ ghost use mathlib.Core.Path.{_≡_};
 ghost use Rattle.drive.specs.Met.{callOf, FormatMet, GateMet};
 ghost use Rattle.drive.specs.Lent.{recordOf, answerWith, formattedWith};
 ghost use Rattle.digest.specs.Digest.{hmacAnswer};
+ghost use Rattle.records.specs.Coding.{credentialFrom};
 ghost use Rattle.client.specs.Met.{IssueMet};
-ghost use Rattle.store.specs.Exported.{credentialFrom, issuedWith, digestWith};
+ghost use Rattle.store.specs.Exported.{issuedWith, digestWith};
 use drive::TABLES;
 use keyring::KEYS;
 use memory::MEMORIES;
 use memory::PLACES;
+use records::CredentialFields;
 use rules::DIGEST_SIZE;
 use rules::KEY_SIZE;
 
@@ -18,21 +20,6 @@ use rules::KEY_SIZE;
 pub struct FrameAnswered {
     pub row: u64,
     pub length: u64,
-}
-
-// The fields of a credential; its mark and its zero byte are the issuer's.
-#[repr(C)]
-pub struct CredentialFields {
-    pub expiry: u64,
-    pub object: u32,
-    pub version: u32,
-    pub first: u32,
-    pub end: u32,
-    pub holder: u32,
-    pub rights: u16,
-    pub partition: u8,
-    pub slot: u8,
-    pub least: u8,
 }
 
 // The issuer's answer: row 0 and the credential key, or the row and 32 zero bytes.
@@ -142,20 +129,7 @@ pub extern "C" fn sievelast_issue(
 ) -> CredentialIssued
     ensures { λ r. ⌜ IssueMet (credentialFrom fields) (now (key .entry)) (now (space .entry)) (issuedWith (r .row) (r .key)) (now (space .exit)) ⌝ }
 {
-    let c = rules::Credential {
-        magic: 0x4c43,
-        partition: fields.partition,
-        slot: fields.slot,
-        object: fields.object,
-        version: fields.version,
-        rights: fields.rights,
-        least: fields.least,
-        zero: 0,
-        first: fields.first,
-        end: fields.end,
-        expiry: fields.expiry,
-        holder: fields.holder,
-    };
+    let c = records::credential_from(fields);
     let i = client::issue(c, key, space);
     let secret = i.key;
     CredentialIssued {

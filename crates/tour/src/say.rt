@@ -15,7 +15,10 @@ fn print_row(what: &[u8], row: u32) {
 fn print_result(result: &[u8]) {
     if result.len() == 4 {
         print(b", version ");
-        io::print_decimal(STDOUT_FILENO, records::decode_version(result).version);
+        io::print_decimal(
+            STDOUT_FILENO,
+            records::decode_version(result).version as u64,
+        );
     }
     if result.len() > 4 {
         print(b", the shape is '");

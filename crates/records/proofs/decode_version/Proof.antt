@@ -16,4 +16,4 @@ returns c = rw (ne-eqb _ _ (c .if1 .taken))
 pub decode-version-spec : {M : Type 1} → statement M
 decode-version-spec =
     tie.close
-    (tie.spec returns (λ c κs. search needs) returns-2)
+    (tie.spec returns (λ c κs. search needs) (λ c. search needs) returns-2)
