@@ -1,13 +1,13 @@
 // SHA-256 (FIPS 180-4) of a message taken part by part, of any length: the words so far, the bytes of the block that is not full yet, and the
 // count of all bytes. Whole blocks are read straight from the part lent; only the ends of parts are copied.
 ghost use mathlib.Core.Path.{_≡_};
-ghost use mathlib.Core.List.{List, [], _∷_, _++_};
-ghost use Prim.Native.Nat.{ℕ, _+_, _*_, _-_, _/_, _%_, _<_, _≤_};
+ghost use mathlib.Core.List.{_∷_, _++_};
+ghost use Prim.Native.Nat.{_+_, _-_, _<_, _≤_};
 ghost use lib.ListN.{length, drop, take, replicate};
 ghost use lib.Seq.{paste};
 ghost use Rattle.lemmas.specs.BigEndian.{bigEndian};
 ghost use Rattle.sha256_block.specs.Sha256.{bytes, sha256};
-ghost use Rattle.sha256_stream.specs.Absorbed.{Absorbed};
+ghost use Rattle.sha256_stream.specs.Stream.{started, absorbed, finished};
 use sha256_block::State;
 use sha256_block::blocks;
 use sha256_block::compress;
@@ -85,7 +85,7 @@ fn counted(p: [u8; 64], bits: u64) -> [u8; 64]
 
 // A hash of no bytes.
 pub fn start() -> Hash
-    ensures { λ r. ⌜ Absorbed r [] ⌝ }
+    ensures { λ r. ⌜ r ≡ started ⌝ }
 {
     let chain = State {
         a: 0x6a09e667,
@@ -107,7 +107,7 @@ pub fn start() -> Hash
 
 // The hash with the bytes of `part` taken after those that it took.
 pub fn absorb(h: Hash, part: &[u8]) -> Hash
-    ensures { λ r. ⌜ ((m : List ℕ) → Absorbed h m → Absorbed r (m ++ now (part .entry))) ⌝ }
+    ensures { λ r. ⌜ r ≡ absorbed h (now (part .entry)) ⌝ }
 {
     let chain = h.chain;
     let pending = h.pending;
@@ -138,7 +138,7 @@ pub fn absorb(h: Hash, part: &[u8]) -> Hash
 // The digest of the bytes taken. The padding goes by cases: after a last block of up to 55 bytes the count fits, and
 // after one of 56 to 63 another block follows.
 pub fn finish(h: Hash) -> [u8; 32]
-    ensures { λ r. ⌜ ((m : List ℕ) → Absorbed h m → r ≡ sha256 m) ⌝ }
+    ensures { λ r. ⌜ r ≡ finished h ⌝ }
 {
     let chain = h.chain;
     let pending = h.pending;

@@ -10,29 +10,27 @@ use Rattle.sha256_stream.proofs.absorb.Statement.{statement}
 use Rattle.sha256_stream.proofs.absorb.Tie as tie
 
 returns : tie.Need-returns
-returns c m a =
+returns c =
     let s = c .before .before .before .before .before .before .before in
     let h = s .args .h in
-    let p = s .args .part .now in
     let l : length (h .pending) ≡ 64 = search needs in
-    absorbed-short h _ m p l a (omega arith) (c .before .before .wrapping-add-u64 .ensures) refl
-    (c .stashed .ensures)
+    absorbed-short h (s .args .part .now) l _ (omega arith) refl (c .stashed .ensures) (c .before .before .wrapping-add-u64 .ensures)
 
 returns-2 : tie.Need-returns-2
-returns-2 c m a =
+returns-2 c =
     let s = c .before .before .before .before .before .before .before .before .before .before .before in
     let h = s .args .h in
     let p = s .args .part .now in
     let l : length (h .pending) ≡ 64 = search needs in
     let full = c .before .before .before .before .stashed2 in
     let room = 64 - h .total % 64 in
-    absorbed-long h _ m p (full .result) room ((length p - room) % 64) l a refl
+    absorbed-long h p l _ (full .result) room ((length p - room) % 64) refl
     (c .before .before .before .before .before .if1 .left) refl
     (full .ensures)
-    (c .before .before .before .before .before .before .wrapping-add-u64 .ensures)
     (c .before .blocks2 .ensures
     ∙ ap (λ v. blocks ((length p - room) / 64) v (drop room p)) (c .before .before .compress .ensures))
     (c .stashed3 .ensures)
+    (c .before .before .before .before .before .before .wrapping-add-u64 .ensures)
 
 pub absorb-spec : {M : Type 1} → statement M
 absorb-spec =
