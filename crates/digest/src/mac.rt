@@ -1,9 +1,8 @@
 // A keyed hash, HMAC of RFC 2104, that takes its message part by part.
 ghost use mathlib.Core.Path.{_≡_};
-ghost use mathlib.Core.List.{List, [], _++_};
-ghost use Prim.Native.Nat.{ℕ};
+ghost use mathlib.Core.List.{_++_};
 ghost use Rattle.digest.specs.Hmac as Rfc;
-ghost use Rattle.digest.specs.Keyed.{Keyed};
+ghost use Rattle.digest.specs.Mac.{macStarted, macAbsorbed, macFinished};
 use sha256_stream::Hash;
 
 // Plain data: `inner` has taken the key with ipad and then the message, `outer` the key with opad.
@@ -42,7 +41,7 @@ fn xored(k: [u8; 64], c: u8) -> [u8; 64]
 // A keyed hash of no bytes. A Mac is plain data: prepare a key once and use it for several messages, each by `absorb`
 // and `finish` from the same value. That saves two of the four blocks of a short message.
 pub fn start(key: &[u8]) -> Mac
-    ensures { λ r. ⌜ Keyed r (now (key .entry)) [] ⌝ }
+    ensures { λ r. ⌜ r ≡ macStarted (now (key .entry)) ⌝ }
 {
     let k = key_block(key);
     let ipad = xored(k, 0x36);
@@ -54,7 +53,7 @@ pub fn start(key: &[u8]) -> Mac
 
 // The keyed hash with the bytes of `part` taken after those that it took.
 pub fn absorb(a: Mac, part: &[u8]) -> Mac
-    ensures { λ r. ⌜ ((k m : List ℕ) → Keyed a k m → Keyed r k (m ++ now (part .entry))) ⌝ }
+    ensures { λ r. ⌜ r ≡ macAbsorbed a (now (part .entry)) ⌝ }
 {
     let inner = sha256_stream::absorb(a.inner, part);
     let outer = a.outer;
@@ -63,7 +62,7 @@ pub fn absorb(a: Mac, part: &[u8]) -> Mac
 
 // The digest of the bytes taken, under the key.
 pub fn finish(a: Mac) -> [u8; 32]
-    ensures { λ r. ⌜ ((k m : List ℕ) → Keyed a k m → r ≡ Rfc.hmac k m) ⌝ }
+    ensures { λ r. ⌜ r ≡ macFinished a ⌝ }
 {
     let text = sha256_stream::finish(a.inner);
     sha256_stream::finish(sha256_stream::absorb(a.outer, &text))

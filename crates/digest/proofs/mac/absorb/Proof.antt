@@ -1,11 +1,12 @@
--- The inner hash takes the part behind the key block and what it had.
-use mathlib.Core.List.{append-assoc}
+-- The inner hash takes the part.
+use Rattle.digest.specs.Mac.{macAbsorbed}
 use borrow.Author.Needs.{needs}
 use Rattle.digest.proofs.mac.absorb.Statement.{statement}
 use Rattle.digest.proofs.mac.absorb.Tie as tie
 
 returns : tie.Need-returns
-returns c k m a = record { inner = rw (← append-assoc) (c .before .absorb .ensures _ (a .inner)); outer = a .outer }
+unfolding macAbsorbed
+returns c = λ i. record { inner = c .before .absorb .ensures i; outer = c .before .before .before .args .a .outer }
 
 pub absorb-spec : {M : Type 1} → statement M
 absorb-spec =

@@ -1,14 +1,24 @@
--- The digest of a message taken in three parts.
+-- The digest of a message taken in three parts, by the laws of Keyed.
+use mathlib.Core.List.{[]}
+use Rattle.digest.specs.KeyedLaws.{keyed-none, keyed-more, finished-keyed}
 use borrow.Author.Needs.{needs}
 use Rattle.digest.proofs.mac.of3.Statement.{statement}
 use Rattle.digest.proofs.mac.of3.Tie as tie
 
 returns : tie.Need-returns
 returns c =
-    c .finish .ensures _ _
-    (c .before .absorb3 .ensures _ _
-    (c .before .before .absorb2 .ensures _ _
-    (c .before .before .before .absorb .ensures _ _ (c .before .before .before .before .start .ensures))))
+    let s = c .before .before .before .before in
+    let x = s .before .before .before .before .before .args in
+    let one = keyed-more _ _ [] (keyed-none (x .key .now)) (x .a .now) in
+    let two = keyed-more _ _ _ one (x .b .now) in
+    rw (
+      c .finish .ensures,
+      c .before .absorb3 .ensures,
+      c .before .before .absorb2 .ensures,
+      c .before .before .before .absorb .ensures,
+      s .start .ensures,
+    )
+    (finished-keyed _ _ _ (keyed-more _ _ _ two (x .c .now)))
 
 pub of3-spec : {M : Type 1} → statement M
 of3-spec =
