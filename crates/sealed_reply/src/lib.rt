@@ -1,8 +1,5 @@
 // The reply to a granted frame: its head, the result, and at level 2 its digest.
 ghost use mathlib.Core.Path.{_≡_};
-ghost use mathlib.Core.List.{List};
-ghost use Prim.Native.Nat.{ℕ};
-ghost use Rattle.digest.specs.Keyed.{Keyed};
 ghost use Rattle.sealed_reply.specs.Reply.{sealPut, replyPut};
 use digest::mac;
 use digest::mac::Mac;
@@ -12,7 +9,7 @@ use rules::Request;
 
 // The digest of what `hash` took and the reply's first n bytes goes after these.
 pub fn seal(reply: &mut [u8], hash: Mac, n: usize)
-    ensures { λ _. ⌜ ((k m : List ℕ) → Keyed hash k m → now (reply .exit) ≡ sealPut k m n (now (reply .entry))) ⌝ }
+    ensures { λ _. ⌜ now (reply .exit) ≡ sealPut hash n (now (reply .entry)) ⌝ }
 {
     if !octets::fits(reply.len(), n, 32) {
         return;
@@ -32,8 +29,7 @@ pub fn put_reply(
     o: Operation,
     context: GrantContext,
 )
-    ensures { λ _. ⌜ ((k m : List ℕ) → Keyed hash k m
-        → now (reply .exit) ≡ replyPut k m r n o context (now (medium .entry)) (now (reply .entry))) ⌝ }
+    ensures { λ _. ⌜ now (reply .exit) ≡ replyPut hash r n o context (now (medium .entry)) (now (reply .entry)) ⌝ }
 {
     let head = reply::reply_head(r, n);
     octets::copy_to(reply, 0, &head);

@@ -32,15 +32,13 @@ front-is t =
 
 returns : tie.Need-returns
 returns c =
-    λ k m h.
     let judged = c .before .before .before .before in
     let t = at-result (judged .before) in
     rw (eq-eqb (at-start t .args .r .level) 2 (judged .if1 .taken))
-    (c .before .before .seal .ensures k m h ∙ ap (sealPut k m (8 + at-start t .args .n)) (front-is t))
+    (c .before .before .seal .ensures ∙ ap (sealPut (at-start t .args .hash) (8 + at-start t .args .n)) (front-is t))
 
 returns-2 : tie.Need-returns-2
 returns-2 c =
-    λ k m h.
     let t = at-result (c .before) in
     rw (ne-eqb (at-start t .args .r .level) 2 (c .if1 .left)) (front-is t)
 

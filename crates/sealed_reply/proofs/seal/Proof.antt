@@ -1,13 +1,12 @@
 -- Past the test the 32 bytes fit.
 use mathlib.Core.Path.{_≡_, refl, sym, ap, _∙_}
-use mathlib.Core.List.{_++_}
 use Prim.Native.Nat.{_+_, _≤_}
 use native.Mathlib.Omega.{arith}
 use lib.ListN.{length, take}
 use lib.Seq.{length-take-le}
 use borrow.Author.Tests.{not-true, not-false, leb-true}
-use Rattle.digest.specs.Hmac.{hmac}
-use Rattle.digest.specs.DigestLaws.{length-hmac}
+use Rattle.digest.specs.Mac.{macAbsorbed, macFinished}
+use Rattle.digest.specs.KeyedLaws.{length-mac}
 use borrow.Author.Needs.{needs}
 use Rattle.sealed_reply.proofs.seal.Statement.{statement}
 use Rattle.sealed_reply.proofs.seal.Tie as tie
@@ -18,7 +17,7 @@ room t =
     leb-true (a .n + 32) (length (a .reply .now)) (sym (t .before .fits2 .ensures) ∙ not-false (t .before .fits2 .result) (t .if1 .left))
 
 returns : tie.Need-returns
-returns c = λ k m h. rw (← c .before .fits2 .ensures, not-true (c .before .fits2 .result) (c .if1 .taken))
+returns c = rw (← c .before .fits2 .ensures, not-true (c .before .fits2 .result) (c .if1 .taken))
 
 slice-reshare-prefix-absorb : tie.Need-slice-reshare-prefix-absorb
 slice-reshare-prefix-absorb c = let k = room c in search needs
@@ -31,11 +30,12 @@ slice-aggregate-absorb c =
 
 returns-2 : tie.Need-returns-2
 returns-2 c =
-    λ k m h.
     let a = c .before .before .before .before .before .before .before .before .before .before .before .args in
-    let digest : c .before .before .before .before .before .finish .result ≡ hmac k (m ++ take (a .n) (a .reply .now)) =
-    c .before .before .before .before .before .finish .ensures k (m ++ take (a .n) (a .reply .now)) (c .before .before .before .before .before .before .absorb .ensures k m h) in
-    let long : length (c .before .before .before .before .before .finish .result) ≡ 32 = ap length digest ∙ length-hmac k (m ++ take (a .n) (a .reply .now)) in
+    let made = macAbsorbed (a .hash) (take (a .n) (a .reply .now)) in
+    let finish = c .before .before .before .before .before .finish in
+    let digest : finish .result ≡ macFinished made =
+    finish .ensures ∙ ap macFinished (c .before .before .before .before .before .before .absorb .ensures) in
+    let long : length (finish .result) ≡ 32 = ap length digest ∙ length-mac made in
     rw (c .before .before .copy-to .ensures, long, digest) refl
 
 pub seal-spec : {M : Type 1} → statement M
