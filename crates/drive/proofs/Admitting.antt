@@ -47,6 +47,8 @@ use Rattle.judge.specs.Judge.{placementFor, FactsHold}
 use Rattle.effect.specs.declared.GrantContext.{GrantContext}
 use Rattle.effect.specs.Effect.{mediumAfter}
 use Rattle.effect.specs.Performed.{ContextFits, BytesFit, medium-is}
+use Rattle.digest.specs.declared.mac.Mac.{Mac}
+use Rattle.digest.specs.Keyed.{Keyed}
 use Rattle.sealed_reply.specs.Reply.{replyPut}
 use Rattle.sealed_reply.specs.Performed.{reply-is}
 use Rattle.partition.specs.Applied.{ChangeFits}
@@ -233,21 +235,20 @@ module _ {s : ScopeFacts} {ks t : List ℕ} {l : List Entry} {m f : List ℕ} {c
             → (j : ℕ) → j ≡ keyIndex (c .slot) (c .partition)
             → (k : GrantContext) → k ≡ grantContext (s .size) (partitionIn t) c found place
             → (after replied : List ℕ) → after ≡ mediumAfter (request .operation) k (y .payload) m
-            → replied ≡ replyPut (credentialKey (keysIn ks) y) (y .credential ++ y .request) r n (request .operation) k m space
+            → (hash : Mac) → Keyed hash (credentialKey (keysIn ks) y) (y .credential ++ y .request)
+            → replied ≡ replyPut hash r n (request .operation) k m space
             → OutcomeMet S m f space (request .operation)
             (record { row = 0; length = whole; key = j; nextversion = k .nextversion; newstart = k .newstart }) after replied
         unfolding granted
-        granted-given set j j-is k k-is after replied medium-e reply-e = record {
+        granted-given set j j-is k k-is after replied medium-e hash keyed reply-e = record {
           row = ap Answer.row (sym (answer space first));
           length = whole-is ∙ ap replyLength r-is ∙ ap Answer.length (sym (answer space first));
           medium = medium-e ∙ ap (λ (o : Operation). mediumAfter o k (y .payload) m) (sym name-is)
               ∙ medium-is (operationOf y) S y m k fits bytes ∙ ap Answer.medium (sym (answer space first));
           space = reply-e
-              ∙ ap (λ (o : Operation). replyPut (credentialKey (keysIn ks) y) (y .credential ++ y .request) r n o k m space)
-              (sym name-is)
-              ∙ ap (λ (b : Request). replyPut (credentialKey (keysIn ks) y) (y .credential ++ y .request) b n (operationOf y)
-              k m space) r-is
-              ∙ reply-is (operationOf y) S y m k fits bytes n n-is space room ∙ ap Answer.space (sym (answer space first));
+              ∙ ap (λ (o : Operation). replyPut hash r n o k m space) (sym name-is)
+              ∙ ap (λ (b : Request). replyPut hash b n (operationOf y) k m space) r-is
+              ∙ reply-is (operationOf y) S y m k fits bytes n n-is space room hash keyed ∙ ap Answer.space (sym (answer space first));
           set = λ z. set-is set;
           key = λ z. j-is ∙ ap (λ (h : Credential). keyIndex (h .slot) (h .partition)) c-is;
           fits = λ z. changes;

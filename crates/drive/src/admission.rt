@@ -122,8 +122,7 @@ fn grant(
 )
     requires { ⌜ length (now frame) ≡ leastFrame + fields (now frame) .req .n ⌝ }
     ensures { λ _. ⌜ (now (medium .exit) ≡ mediumAfter o context (fields (now (frame .entry)) .payload) (now (medium .entry)))
-        × ((k taken : List ℕ) → Keyed hash k taken
-        → now (reply .exit) ≡ replyPut k taken r n o context (now (medium .entry)) (now (reply .entry))) ⌝ }
+        × (now (reply .exit) ≡ replyPut hash r n o context (now (medium .entry)) (now (reply .entry))) ⌝ }
 {
     let end = frame.len() - DIGEST_SIZE;
     sealed_reply::put_reply(reply, medium, hash, r, n, o, context);

@@ -218,12 +218,11 @@ returns-4 c l w =
     let e = at-judged (g .before) in
     let t = e .before in
     let a = start3 t .args in
-    let x = fields (a .frame .now) in
     let m = at-hash (at-signed (at-found t)) in
     granted-given w (prepared t) (a .reply .now) (row-of t l w ∙ e .if3 .left) (found-of (at-set m) l w)
     (at-key (at-set m .before) .key-index .result) (at-key (at-set m .before) .key-index .ensures)
     (at-context (g .before) .grant-context .result) (at-context (g .before) .grant-context .ensures) _ _ (g .grant .ensures .0)
-    (g .grant .ensures .1 (credentialKey (keysIn (a .keys .now)) x) (x .credential ++ x .request) (keyed-of m l w))
+    (m .records-mac .result) (keyed-of m l w) (g .grant .ensures .1)
 
 pub admit-spec : {M : Type 1} → statement M
 admit-spec =

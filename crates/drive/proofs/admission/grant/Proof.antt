@@ -22,7 +22,7 @@ returns c =
     let a = at-start t .args in (
       u .update-medium .ensures ∙ ap (λ (y : List ℕ). mediumAfter (a .o) (a .context) y (a .medium .now))
           (the-payload (a .frame .now) (at-start t .pre)),
-      λ k taken h. t .put-reply .ensures k taken h,
+      t .put-reply .ensures,
     )
 
 pub grant-spec : {M : Type 1} → statement M

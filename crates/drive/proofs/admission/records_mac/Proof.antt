@@ -1,10 +1,15 @@
-use mathlib.Core.Path.{sym, subst}
+-- The credential key, then credential and request: keyed-none and keyed-more.
+use mathlib.Core.Path.{_≡_, sym, ap, subst, _∙_}
 use native.Mathlib.Omega.{arith}
 use mathlib.Core.List.{List, []}
 use Prim.Native.Nat.{ℕ}
 use lib.ListN.{take}
 use lib.Seq.{length-take-le}
+use Rattle.digest.specs.declared.mac.Mac.{Mac}
+use Rattle.digest.specs.Hmac.{hmac}
+use Rattle.digest.specs.Mac.{macStarted, macAbsorbed}
 use Rattle.digest.specs.Keyed.{Keyed}
+use Rattle.digest.specs.KeyedLaws.{keyed-none, keyed-more}
 use borrow.Author.Needs.{needs}
 use Rattle.drive.proofs.admission.records_mac.Statement.{statement}
 use Rattle.drive.proofs.admission.records_mac.Tie as tie
@@ -18,8 +23,12 @@ slice-aggregate-absorb c = let a = c .before .before .before .before .before .be
 returns : tie.Need-returns
 returns c =
     let a = c .before .before .before .before .before .before .before .before .args in
-    subst (λ (k : List ℕ). Keyed (c .absorb .result) k (take 64 (a .frame .now))) (c .before .before .before .before .of .ensures)
-    (c .absorb .ensures (c .before .before .before .before .of .result) [] (c .before .before .start .ensures))
+    let k : List ℕ = hmac (a .key .now) (take 36 (a .frame .now)) in
+    let p : List ℕ = take 64 (a .frame .now) in
+    let e : c .absorb .result ≡ macAbsorbed (macStarted k) p =
+    c .absorb .ensures
+    ∙ ap (λ (h : Mac). macAbsorbed h p) (c .before .before .start .ensures ∙ ap macStarted (c .before .before .before .before .of .ensures)) in
+    subst (λ (h : Mac). Keyed h k p) (sym e) (keyed-more (macStarted k) k [] (keyed-none k) p)
 
 pub records-mac-spec : {M : Type 1} → statement M
 records-mac-spec =
