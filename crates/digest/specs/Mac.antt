@@ -1,5 +1,5 @@
--- What start, absorb and finish of the module mac make of a keyed hash, whatever it holds: RFC 2104, section 2, over the hashes of
--- sha256_stream. K is a key, a a keyed hash, p a part.
+-- What start, absorb and finish of the module mac make of a keyed hash, whatever it holds: RFC 2104, section 2, over the
+-- hashes of sha256_stream. K is a key, a a keyed hash, p a part of a message.
 use mathlib.Core.List.{List}
 use Prim.Native.Nat.{ℕ}
 use Rattle.sha256_stream.specs.Stream.{started, absorbed, finished}

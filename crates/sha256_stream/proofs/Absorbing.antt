@@ -11,6 +11,10 @@ use Rattle.sha256_block.proofs.Compression.{blocks-suc}
 use Rattle.sha256_stream.specs.declared.Hash.{Hash}
 use Rattle.sha256_stream.specs.Stream.{heldWith, workedIn, pendingAfter, absorbed}
 
+-- what is held back has as many bytes as the count leaves over
+pub length-held : (h : Hash) → length (h .pending) ≡ 64 → length (take (h .total % 64) (h .pending)) ≡ h .total % 64
+length-held h hl = length-take-le (h .total % 64) (h .pending) (omega arith)
+
 -- the three fields
 by-fields : (h r : Hash) (p : List ℕ) → r .chain ≡ workedIn (h .chain) (heldWith h p)
     → r .pending ≡ pendingAfter (h .pending) (heldWith h p) → r .total ≡ (h .total + length p) % 2 ^ 64 → r ≡ absorbed h p
@@ -25,7 +29,7 @@ module _ (h : Hash) (p : List ℕ) (hl : length (h .pending) ≡ 64) where
   x = take u (h .pending)
 
   length-x : length x ≡ u
-  length-x = length-take-le u (h .pending) (omega arith)
+  length-x = length-held h hl
 
   length-l : length (x ++ p) ≡ u + length p
   length-l = length-append x p ∙ ap (λ (k : ℕ). k + length p) length-x

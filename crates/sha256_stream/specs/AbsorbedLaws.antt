@@ -1,5 +1,5 @@
--- What a hash holds after a message taken part by part, and that its digest is the message's: by the law that blocks can be worked in from any
--- of them on.
+-- What a hash holds after a message taken part by part, and that its digest is the message's: by the law that blocks can be
+-- worked in from any of them on.
 use mathlib.Core.Path.{_≡_, refl, sym, ap, _∙_}
 use mathlib.Core.List.{List, [], _∷_, _++_}
 use Prim.Native.Nat.{ℕ, zero, suc, _+_, _-_, _*_, _/_, _%_, _^_, _≤_}

@@ -13,7 +13,7 @@ use sha256_block::blocks;
 use sha256_block::compress;
 use std::num::wrapping_add_u64;
 
-// `total` counts the bytes, modulo 2^64; the last total % 64 of them stand at the start of `pending`.
+// Plain data. `total` counts the bytes, modulo 2^64; the last total % 64 of them stand at the start of `pending`.
 pub struct Hash {
     pub chain: State,
     pub pending: [u8; 64],
