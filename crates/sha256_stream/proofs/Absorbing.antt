@@ -1,10 +1,10 @@
 -- A part taken by cases, one that fills no block and one that fills the block begun: both are what Stream says.
 use mathlib.Core.Path.{_≡_, refl, sym, ap, _∙_}
-use mathlib.Core.List.{List, _++_, append-assoc}
+use mathlib.Core.List.{List, _++_}
 use Prim.Native.Nat.{ℕ, suc, _+_, _-_, _*_, _/_, _%_, _^_, _≤_, _<_}
 use native.Mathlib.Omega.{arith}
 use lib.ListN.{length, take, drop, length-append, length-drop}
-use lib.Seq.{take-append-add, drop-append-add, take-append-le, take-all, take-at, drop-at}
+use lib.Seq.{take-append-add, drop-append-add, take-append-le, take-all, drop-at}
 use lib.Seq.{length-take-le, take-length, paste, take-paste, length-paste}
 use Rattle.sha256_block.specs.Sha256.{compress, blocks}
 use Rattle.sha256_block.proofs.Compression.{blocks-suc}
@@ -12,8 +12,8 @@ use Rattle.sha256_stream.specs.declared.Hash.{Hash}
 use Rattle.sha256_stream.specs.Stream.{heldWith, workedIn, pendingAfter, absorbed}
 
 -- what is held back has as many bytes as the count leaves over
-pub length-held : (h : Hash) → length (h .pending) ≡ 64 → length (take (h .total % 64) (h .pending)) ≡ h .total % 64
-length-held h hl = length-take-le (h .total % 64) (h .pending) (omega arith)
+pub length-begun : (h : Hash) → length (h .pending) ≡ 64 → length (take (h .total % 64) (h .pending)) ≡ h .total % 64
+length-begun h hl = length-take-le (h .total % 64) (h .pending) (omega arith)
 
 -- the three fields
 by-fields : (h r : Hash) (p : List ℕ) → r .chain ≡ workedIn (h .chain) (heldWith h p)
@@ -29,7 +29,7 @@ module _ (h : Hash) (p : List ℕ) (hl : length (h .pending) ≡ 64) where
   x = take u (h .pending)
 
   length-x : length x ≡ u
-  length-x = length-held h hl
+  length-x = length-begun h hl
 
   length-l : length (x ++ p) ≡ u + length p
   length-l = length-append x p ∙ ap (λ (k : ℕ). k + length p) length-x

@@ -13,7 +13,7 @@ use Rattle.sha256_stream.specs.declared.Hash.{Hash}
 use Rattle.sha256_block.specs.Sha256.{compress, blocks, padding, bytes}
 use Rattle.sha256_stream.specs.Stream.{finished}
 use Rattle.sha256_stream.specs.AbsorbedLaws.{count-mod}
-use Rattle.sha256_stream.proofs.Absorbing.{length-held}
+use Rattle.sha256_stream.proofs.Absorbing.{length-begun}
 
 -- ---- the padding, by cases
 
@@ -82,7 +82,7 @@ module _ (h : Hash) (hl : length (h .pending) ≡ 64) where
       → finished h ≡ bytes (blocks k (h .chain) (x ++ padding (h .total)))
   unfolding finished
   finished-in k e s =
-      let n : length (x ++ padding (h .total)) / 64 ≡ k = omega (arith, length-append x (padding (h .total)), length-held h hl, e) in
+      let n : length (x ++ padding (h .total)) / 64 ≡ k = omega (arith, length-append x (padding (h .total)), length-begun h hl, e) in
       ap (λ (j : ℕ). bytes (blocks j (h .chain) (x ++ padding (h .total)))) n
 
   bits-is : (b : ℕ) → b ≡ h .total * 8 % 2 ^ 64 → bigEndian 8 b ≡ bigEndian 8 (8 * h .total)
@@ -120,7 +120,7 @@ module _ (h : Hash) (hl : length (h .pending) ≡ 64) where
       ∙ simp (length-append, length-replicate, length-bigEndian) (omega arith) in
       let g : x ++ padding (h .total) ≡ y ++ z =
       rw (padding-long (h .total) s, c, append-assoc x (128 ∷ replicate (63 - u) 0) z) in
-      let ly : length y ≡ 64 = simp (length-append, length-replicate, length-held h hl) (omega arith) in
+      let ly : length y ≡ 64 = simp (length-append, length-replicate, length-begun h hl) (omega arith) in
       let e₁ : take 64 full ≡ take 64 (x ++ padding (h .total)) = ef ∙ sym (ap (take 64) g ∙ take-at y z 64 ly) in
       let e₂ : last ≡ drop 64 (x ++ padding (h .total)) = el ∙ rw (bits-is b eb, g, drop-at y z 64 ly) in
       rw (e₁, e₂, finished-in 2 l (omega arith))
