@@ -7,8 +7,9 @@ use Rattle.lemmas.specs.ListLaws.{map-append}
 use Rattle.lemmas.specs.Lists.{part}
 use Rattle.rules.specs.Demands.{callFields, bytesOf, fed, State}
 use Rattle.rules.specs.Ledger.{Fed, Ledger, ledger, ledgerStart}
-use Rattle.rules.specs.Story.{OfEveryList, OneLog, VersionsOnce}
+use Rattle.rules.specs.Story.{OfEveryList, OneLog, OpensNothing, VersionsOnce}
 use Rattle.rules.proofs.OneLog.{one-log, versions-once}
+use Rattle.rules.proofs.OpensNothing.{opens-nothing}
 use Rattle.drive.specs.declared.Formatted.{Formatted}
 use Rattle.drive.specs.Chain.{Chain, CallMade, fedBy, DriveState, MadeFromFormat}
 use Rattle.drive.specs.ChainStory.{AllOfStory}
@@ -43,6 +44,7 @@ story medium F master key r zeroed calls made = record {
       (ap (map fedBy) e ∙ map-append fedBy before (c ∷ (between ++ (d ∷ later)))
       ∙ ap (λ (f : List Fed). map fedBy before ++ (fedBy c ∷ f)) (map-append fedBy between (d ∷ later)))
       uc ud);
+  opensNothing = fed-claim OpensNothing opens-nothing medium F master key r zeroed calls made;
 }
   where
     one : OneLog (length medium) (ledgerStart F master key) (map fedBy calls)

@@ -10,7 +10,7 @@ use Rattle.rules.specs.Demands.{callFields, bytesOf, callOperation}
 use Rattle.rules.specs.declared.Operation.the-variants.{Read}
 use Rattle.rules.specs.Ledger.{Ledger, ledgerStart}
 use Rattle.rules.specs.Operations.{headSize}
-use Rattle.rules.specs.Story.{OneLog, rewritten, Uses, VersionsOnce}
+use Rattle.rules.specs.Story.{OneLog, OpensNothing, rewritten, Uses, VersionsOnce}
 use Rattle.drive.specs.declared.Formatted.{Formatted}
 use Rattle.drive.specs.Chain.{ledgerAfterCalls, CallMade, fedBy, MadeFromFormat}
 
@@ -28,6 +28,9 @@ pub record Story (M : ℕ) (l : Ledger) (calls : List CallMade) : Type 0 where
       → callOperation (d .call) ≡ Read A B
       → part (d .space) headSize B
       ≡ part (rewritten p n (map fedBy (c ∷ between)) (bytesOf (ledgerAfterCalls M l before) (callFields (c .call)))) A B
+  -- "A credential that has run out, or that was made for the log before, opens nothing": neither one of an old version in
+  -- operations 1 to 6 nor one whose expiry a clock reading has passed, whether or not it was used before
+  pub opensNothing : OpensNothing M l (map fedBy calls)
 
 -- for every format that returned row 0 and every list of calls
 abbrev pub AllOfStory : Type 0

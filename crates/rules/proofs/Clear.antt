@@ -208,6 +208,10 @@ module _ {f : List ℕ} {s : Scope Object} {space : List ℕ} (g : Clear f s spa
   exists h = and-rest-false (x .cred .object isnt 0) (missing (namedObject s (x .cred)))
       (ap not (ne-eqb (x .cred .object) 0 h)) (by-drive 14)
 
+  pub unexpired : s .highWater ≤ x .cred .expiry
+  unfolding driveRows scopeRows applies row10
+  unexpired = ltb-false (x .cred .expiry) (s .highWater) (by-drive 10)
+
   pub version-is : x .req .operation ≤ 6 → x .cred .version ≡ presentVersion s (x .cred)
   unfolding driveRows scopeRows applies row15
   version-is h = eqb-true (x .cred .version) (presentVersion s (x .cred))

@@ -1,5 +1,5 @@
 -- The theorems over document 01's definitions: demand 1 (`Answers`), demand 2 (`RoundTrip`, `RepliesBack`), demand 3
--- (`Demand`), the placing rule (`Placing`), the customer's story (`OneLog`). The other files lead to these.
+-- (`Demand`), the placing rule (`Placing`), the customer's story (`OneLog`, `OpensNothing`). The other files lead to these.
 pub mod Answers
 -- the placing rule
 pub mod Gaps
@@ -23,6 +23,7 @@ pub mod Renewal
 pub mod Passed
 pub mod Versions
 pub mod OneLog
+pub mod OpensNothing
 -- frames and replies
 pub mod RoundTrip
 pub mod RepliesBack

@@ -12,6 +12,7 @@ use Rattle.rules.specs.declared.Operation.the-variants.{Create, Delete, 
 use Rattle.rules.specs.Frame.{Fields, operationOf}
 use Rattle.rules.specs.Ledger.{Fed, feed, Ledger, ledger}
 use Rattle.rules.specs.Story.{
+  Carries,
   fedFields,
   lastOf,
   OfEveryList,
@@ -59,7 +60,7 @@ versions-from-run M l [] later w p n k b = b
 versions-from-run M l (c ∷ cs) later w p n k b =
     versions-from-run M (feed M l c) cs later w p n (k .1) (versions-from-step M (k .0) w p n b)
 
-renewed-run : (M : ℕ) (l : Ledger) (between later : List Fed) (e : Fed) (v p n : ℕ) → FedByGate M l (between ++ later)
+pub renewed-run : (M : ℕ) (l : Ledger) (between later : List Fed) (e : Fed) (v p n : ℕ) → FedByGate M l (between ++ later)
     → List·Memᴰ e between → Renews p n e → v ≤ lastOf l p → VersionsFrom (v + 1) p n (ledger M l between)
 unfolding FedByGate ledger
 renewed-run M l (c ∷ cs) later e v p n k (List·Memᴰ·head q) r h =
@@ -77,13 +78,22 @@ bytes-run M l (c ∷ cs) later p n k r =
     bytes-run M (feed M l c) cs later p n (k .1) (λ e m. r e (List·Memᴰ·tail m))
     ∙ ap (rewritten p n cs) (bytes-step M (k .0) p n (r c (List·Memᴰ·head refl)))
 
--- ---- a use names the version that is there
+-- ---- a granted call of operations 1 to 6, so a use too, names the version that is there
+pub carried : (M : ℕ) (l : Ledger) (c : Fed) (later : List Fed) (p n v : ℕ) → FedByGate M l (c ∷ later) → c .row ≡ 0
+    → Carries p n v c → versionOf l p n ≡ some v
+unfolding FedByGate
+carried M l c later p n v k g u =
+    subst₂ (λ (q i : ℕ). versionOf l q i ≡ some v) (u .partition) (u .object)
+    (k .0 .passes g .version (u .operation) ∙ ap some (u .version))
+
 used : (M : ℕ) (l : Ledger) (c : Fed) (later : List Fed) (p n v : ℕ) → FedByGate M l (c ∷ later) → Uses p n v c
     → versionOf l p n ≡ some v
-unfolding FedByGate
-used M l c later p n v k u =
-    subst₂ (λ (q i : ℕ). versionOf l q i ≡ some v) (u .partition) (u .object)
-    (k .0 .passes (u .granted) .version (omega (arith, u .operation)) ∙ ap some (u .version))
+used M l c later p n v k u = carried M l c later p n v k (u .granted) (record {
+  operation = omega (arith, u .operation);
+  partition = u .partition;
+  object = u .object;
+  version = u .version;
+})
 
 there-versions-from : (l : Ledger) (p n v : ℕ) → Sane l → versionOf l p n ≡ some v → VersionsFrom v p n l
 there-versions-from l p n v s e = record {
@@ -119,7 +129,7 @@ renews-none p n v c u r = go (r .object)
     go (inr k) = omega (arith, u .operation, asks-for (x .req) Delete (k .0))
 
 module _ (M : ℕ) (l : Ledger) (calls : List Fed) (k : FedByGate M l calls) where
-  rest : (before later : List Fed) → calls ≡ before ++ later → FedByGate M (ledger M l before) later
+  pub rest : (before later : List Fed) → calls ≡ before ++ later → FedByGate M (ledger M l before) later
   rest before later q = fed-rest M l before later (subst (FedByGate M l) q k)
 
   once-of : VersionsOnce M l calls

@@ -1,4 +1,4 @@
--- What is known of a granted call by rows 4, 6, 14, 15 and 18, in terms of the ledger before it; and what a call does to
+-- What is known of a granted call by rows 4, 6, 10, 14, 15 and 18, in terms of the ledger before it; and what a call does to
 -- each partition of the ledger. l: a ledger. c: a call that it is fed. p: a partition's number.
 use mathlib.Core.Path.{_∙_, _≡_, ap, refl, subst, sym}
 use mathlib.Core.Logic.{_⊎_, inl, inr}
@@ -23,7 +23,7 @@ use Rattle.rules.specs.Operations.{namedObject, objectOf, presentVersion
 use Rattle.rules.specs.Scope.{Scope, driveScope}
 use Rattle.rules.specs.Story.{fedFields, versionIn, versionOf}
 use Rattle.rules.proofs.Bare.{missing-is, sees, the-ledger-object, the-object}
-use Rattle.rules.proofs.Clear.{asks-for, Clear, deletes-object, exists, number-free, version-is}
+use Rattle.rules.proofs.Clear.{asks-for, Clear, deletes-object, exists, number-free, unexpired, version-is}
 use Rattle.rules.proofs.Renewal.{CanRenew, partitionAfter}
 use Rattle.rules.proofs.Sound.{with-scope-here, with-scope-there}
 use Rattle.rules.proofs.Step.{clear-of, entries, fresh, Invariant, rowOf, sees-is, the-grant}
@@ -95,6 +95,12 @@ passed {M} {s} {l} v c g = record {
 
     not-zero : {n : ℕ} → 1 ≤ n → n ≡ 0 → ⊥
     not-zero h z = omega arith
+
+-- its credential has not run out by the mark that it sets
+pub in-time : {M : ℕ} {s : State} {l : Ledger} → Invariant M s l → (c : Call) → rowOf s c ≡ 0
+    → clocked (c .clock) l .highWater ≤ callFields c .cred .expiry
+in-time v c g = subst (λ (t : Scope Object). t .highWater ≤ callFields c .cred .expiry) (sees-is v c)
+    (unexpired (clear-of v c g))
 
 -- ---- what a call does to partition p: the partitionAfter of its grant, or nothing
 pub record Affected (M : ℕ) (l : Ledger) (c : Fed) (p : ℕ) : Type 0 where

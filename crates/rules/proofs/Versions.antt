@@ -21,7 +21,7 @@ use Rattle.rules.specs.Ledger.{clocked, Fed, feed, LedgerObject, Ledger,
 use Rattle.rules.specs.Story.{fedFields, Gives, lastOf, OfEveryList, Renewing, Renews, versionIn, versionOf, writes}
 use Rattle.rules.proofs.Clear.{asks-for}
 use Rattle.rules.proofs.Demand.{format-inv}
-use Rattle.rules.proofs.Passed.{Affected, affected-or-not, Passed, passed, Unaffected}
+use Rattle.rules.proofs.Passed.{Affected, affected-or-not, in-time, Passed, passed, Unaffected}
 use Rattle.rules.proofs.Renewal.{
   bytes-same,
   bytes-written,
@@ -48,6 +48,7 @@ pub record Sane (l : Ledger) : Type 0 where
 pub record FedCall (l : Ledger) (c : Fed) : Type 0 where
   pub sane : Sane l
   pub passes : c .row ≡ 0 → Passed l (fedFields c)
+  pub inTime : c .row ≡ 0 → clocked (c .clock) l .highWater ≤ fedFields c .cred .expiry
 
 unfoldable pub FedByGate : ℕ → Ledger → List Fed → Type 0
 FedByGate M l [] = Sane l
@@ -221,6 +222,7 @@ run-fed {M} {s} {l} v g (c ∷ cs) =
     let f : FedCall l (fedOf s c) = record {
       sane = record { four = v .consistent .four; given = g };
       passes = λ r. passed v c (row-zero v c r);
+      inTime = λ r. in-time v c (row-zero v c r);
     } in
     (f, run-fed (step-inv v c) (given-step M f) cs)
 

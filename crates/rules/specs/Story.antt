@@ -1,12 +1,13 @@
 -- The customer's story, "The shape I read belongs to one log", over the calls that a ledger is fed: frames, clock
--- readings and rows, nothing else. A consequence of demand 3, proved in proofs/: `versions-once`, `one-log`.
+-- readings and rows, nothing else. A consequence of demand 3, proved in proofs/: `versions-once`, `one-log`,
+-- `opens-nothing`.
 -- c, d, e: calls. p: a partition. n: an object's number, 0 meaning the partition. v: a version. l: a ledger.
 use mathlib.Core.Path.{_≡_}
 use mathlib.Core.Logic.{_⊎_}
 use mathlib.Core.Bool.{_&&_, Bool, cond}
 use mathlib.Core.Option.{Option, Option·map, some}
 use mathlib.Core.List.{[], _++_, _∷_, List, List·Memᴰ}
-use Prim.Native.Nat.{_+_, _≤_, ℕ}
+use Prim.Native.Nat.{_+_, _<_, _≤_, ℕ}
 use lib.ListN.{length}
 use Rattle.lemmas.specs.Lists.{find, splice}
 use Rattle.lemmas.specs.Tests.{_is_}
@@ -129,7 +130,40 @@ pub record OneLog (M : ℕ) (l : Ledger) (calls : List Fed) : Type 0 where
       → bytesOf (ledger M l (before ++ (c ∷ between))) (fedFields d)
       ≡ rewritten p n (c ∷ between) (bytesOf (ledger M l before) (fedFields c))
 
--- both, for every format that returned row 0 and every list of calls
+-- ---- "A credential that has run out, or that was made for the log before, opens nothing."
+-- c's credential is for object n of partition p in version v, and its request is one of operations 1 to 6, granted or not
+pub record Carries (p n v : ℕ) (c : Fed) : Type 0 where
+  pub operation : fedFields c .req .operation ≤ 6
+  pub partition : fedFields c .cred .partition ≡ p
+  pub object : fedFields c .cred .object ≡ n
+  pub version : fedFields c .cred .version ≡ v
+
+pub record OpensNothing (M : ℕ) (l : Ledger) (calls : List Fed) : Type 0 where
+  -- "made for the log before": object n had version v; since then a grant c raised, deleted or created it; then no call d
+  -- that carries v is granted, whether or not it ever was before
+  pub old : (before between later : List Fed) (c d : Fed) (p n v : ℕ)
+      → calls ≡ before ++ (between ++ (d ∷ later))
+      → versionOf (ledger M l before) p n ≡ some v
+      → List·Memᴰ c between
+      → Renews p n c
+      → Carries p n v d
+      → d .row ≡ 0 → ⊥
+  -- nor is one that carries any version which its partition had given before c
+  pub older : (before between later : List Fed) (c d : Fed) (p n v : ℕ)
+      → calls ≡ before ++ (c ∷ (between ++ (d ∷ later)))
+      → v ≤ lastOf (ledger M l before) p
+      → Renews p n c
+      → Carries p n v d
+      → d .row ≡ 0 → ⊥
+  -- "that has run out": from a call c on, granted or not, whose clock reading is over the expiry of d's credential, d is
+  -- not granted, be it c itself or a later one
+  pub runOut : (before later : List Fed) (c d : Fed)
+      → calls ≡ before ++ (c ∷ later)
+      → List·Memᴰ d (c ∷ later)
+      → fedFields d .cred .expiry < c .clock
+      → d .row ≡ 0 → ⊥
+
+-- each of these, for every format that returned row 0 and every list of calls
 abbrev pub OfEveryList : (ℕ → Ledger → List Fed → Type 0) → Type 0
 OfEveryList Claim =
     (medium : List ℕ) (F : ℕ) (master drive : List ℕ) (calls : List Call)
