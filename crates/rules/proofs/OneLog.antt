@@ -33,10 +33,12 @@ use Rattle.rules.proofs.Versions.{
   FedByGate,
   fed-rest,
   fed-sane,
+  kept-step,
   last-step,
   next-step,
   renew-step,
   Sane,
+  still-step,
 }
 use Rattle.rules.proofs.Renewal.{bytesIn}
 
@@ -144,6 +146,12 @@ module _ (M : ℕ) (l : Ledger) (calls : List Fed) (k : FedByGate M l calls) whe
         subst (λ (a : Ledger). (lastOf a p ≡ was + 1) × (versionOf a p n ≡ some (was + 1)))
         (sym (ledger-append M l before (c ∷ [])))
         (next-step M (h .0) p n g);
+    still = λ before later c p q h.
+        ap (λ (a : Ledger). lastOf a p) (ledger-append M l before (c ∷ []))
+        ∙ still-step M (rest before (c ∷ later) q .0) p h;
+    kept = λ before later c p n q h.
+        ap (λ (a : Ledger). versionOf a p n) (ledger-append M l before (c ∷ []))
+        ∙ kept-step M (rest before (c ∷ later) q .0) p n h;
     given = λ before later p n v q e.
         fed-sane M (ledger M l before) later (rest before later q) .given p n v e;
     once = λ before between later c p n v q e r f.

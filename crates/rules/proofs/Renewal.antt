@@ -115,6 +115,16 @@ module _ (M : ℕ) (x : Fields) (l : Ledger) (p : Partition LedgerObject) where
   last-next o n (inl r) = ap (λ (k : Operation). partitionAfter k M x l p .last) (r .0)
   last-next o n (inr r) = ap (λ (k : Operation). partitionAfter k M x l p .last) (r .1)
 
+  pub last-same : (o : Operation) → ((n : ℕ) → Giving o x n → ⊥) → partitionAfter o M x l p .last ≡ p .last
+  unfolding ledgerPerform ledgerWritten ledgerDeleted
+  last-same (Read a b) h = refl
+  last-same (Write a b) h = refl
+  last-same Look h = refl
+  last-same Raise h = absurd (h (x .cred .object) (inl (refl, refl)))
+  last-same (Create a b) h = absurd (h a (inr (b, refl)))
+  last-same Delete h = refl
+  last-same (SetKey a) h = refl
+
   -- ---- what is raised or created has the next version
   pub given-next : (o : Operation) (n : ℕ) → CanRenew o x p → Giving o x n
       → versionIn (partitionAfter o M x l p) n ≡ some (p .last + 1)

@@ -31,6 +31,7 @@ use Rattle.rules.proofs.Renewal.{
   given-next,
   last-next,
   last-rises,
+  last-same,
   renewed,
   renewed-or-same,
 }
@@ -99,6 +100,30 @@ module _ (M : ℕ) {l : Ledger} {c : Fed} (f : FedCall l c) where
             ∙ given-next M x now (partitionAt l p) (operationOf x) n (can p h) (g .object),
       )
       go (inr h) = absurd (h .away (g .granted) (g .partition))
+
+  -- any other call leaves it, and the versions of what it does not renew
+  pub still-step : (p : ℕ) → ((n : ℕ) → Gives p n c → ⊥) → lastOf next p ≡ lastOf l p
+  still-step p none-given = go (at p)
+    where
+      go : Affected M l c p ⊎ Unaffected M l c p → lastOf next p ≡ lastOf l p
+      go (inl h) =
+          ap (λ (r : Partition LedgerObject). r .last) (h .effect)
+          ∙ last-same M x now (partitionAt l p) (operationOf x)
+          (λ n g. none-given n (record { granted = h .granted; partition = h .partition; object = g }))
+      go (inr h) = ap (λ (r : Partition LedgerObject). r .last) (h .same)
+
+  pub kept-step : (p n : ℕ) → (Renews p n c → ⊥) → versionOf next p n ≡ versionOf l p n
+  kept-step p n none-renewed = go (at p)
+    where
+      here : Affected M l c p → Renewing (operationOf x) x n
+          ⊎ (versionIn (partitionAfter (operationOf x) M x now (partitionAt l p)) n ≡ versionOf l p n)
+          → versionOf next p n ≡ versionOf l p n
+      here h (inl r) = absurd (none-renewed (record { granted = h .granted; partition = h .partition; object = r }))
+      here h (inr k) = ap (λ (q : Partition LedgerObject). versionIn q n) (h .effect) ∙ k
+
+      go : Affected M l c p ⊎ Unaffected M l c p → versionOf next p n ≡ versionOf l p n
+      go (inl h) = here h (renewed-or-same M x now (partitionAt l p) (operationOf x) n)
+      go (inr h) = ap (λ (q : Partition LedgerObject). versionIn q n) (h .same)
 
   -- a version is as it was, or the next one
   abbrev New : ℕ → ℕ → Type 0

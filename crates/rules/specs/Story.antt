@@ -66,6 +66,15 @@ pub record VersionsOnce (M : ℕ) (l : Ledger) (calls : List Fed) : Type 0 where
       → Gives p n c
       → (lastOf (ledger M l (before ++ (c ∷ []))) p ≡ lastOf (ledger M l before) p + 1)
       × (versionOf (ledger M l (before ++ (c ∷ []))) p n ≡ some (lastOf (ledger M l before) p + 1))
+  -- any other call, a refused one too, leaves the last version given, and the versions of what it does not renew
+  pub still : (before later : List Fed) (c : Fed) (p : ℕ)
+      → calls ≡ before ++ (c ∷ later)
+      → ((n : ℕ) → Gives p n c → ⊥)
+      → lastOf (ledger M l (before ++ (c ∷ []))) p ≡ lastOf (ledger M l before) p
+  pub kept : (before later : List Fed) (c : Fed) (p n : ℕ)
+      → calls ≡ before ++ (c ∷ later)
+      → (Renews p n c → ⊥)
+      → versionOf (ledger M l (before ++ (c ∷ []))) p n ≡ versionOf (ledger M l before) p n
   -- what is there has a version that was given
   pub given : (before later : List Fed) (p n v : ℕ)
       → calls ≡ before ++ later
