@@ -69,6 +69,12 @@ module _ (d : Drive) (m : List ℕ) (c : Call) where
       ap Answer.drive (gate-refused (λ z. let k : _≡_ {A = ℕ} 0 1 = sym z ∙ r in omega arith))
       ∙ ap (λ (n : ℕ). afterRefusal n (c .clock) d) r
 
+  -- any other refusal returns it with its new mark
+  refreshed : (gate d m c .row ≡ 0 → ⊥) → (gate d m c .row ≡ 1 → ⊥) → gate d m c .drive ≡ fresh
+  refreshed e f =
+      ap Answer.drive (gate-refused (λ z. e (gate-row ∙ z)))
+      ∙ rw (ne-eqb (firstRow table) 1 (λ z. f (gate-row ∙ z))) refl
+
   -- an unchanged drive, and one with its new mark
   same-drive : MarkAndOutlived d d
   same-drive = record { size = refl; keys = refl; partitions = refl; mark = omega arith; memories = λ k. inl refl }
@@ -97,6 +103,7 @@ module _ (d : Drive) (m : List ℕ) (c : Call) where
         subst (λ (a : Answer Drive). MarkAndOutlived d (a .drive)) (sym (gate-refused (λ z. e (gate-row ∙ z))))
         (left-drive (firstRow table is 1));
     unchanged = unchanged;
+    refreshed = refreshed;
   }
 
   -- ---- a sound drive and its own medium: row 1 does not apply, and a refusal leaves the new mark

@@ -141,6 +141,8 @@ bare-count l = length-map (l .partitions) bare
 
 pub agree : {M : ℕ} {s : State} {l : Ledger} → Invariant M s l → Agrees M s l
 agree {M} {s} {l} v = record {
+  size = v .size;
+  medium = v .consistent .size;
   tables = v .tables;
   bytes = v .consistent .bytes;
   inside = λ p a k. (four p a k, (omega arith, omega (arith, object p a k .inside)));

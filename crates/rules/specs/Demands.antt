@@ -65,6 +65,8 @@ pub record Demand1 (d : Drive) (m : List ℕ) (c : Call) : Type 0 where
   pub drive : (gate d m c .row ≡ 0 → ⊥) → MarkAndOutlived d (gate d m c .drive)
   -- row 1: "it comes back unchanged, mark included"
   pub unchanged : gate d m c .row ≡ 1 → gate d m c .drive ≡ d
+  -- any other row: the drive with the mark that this call sets, in each memory exactly the entries that it has not outlived
+  pub refreshed : (gate d m c .row ≡ 0 → ⊥) → (gate d m c .row ≡ 1 → ⊥) → gate d m c .drive ≡ refresh (c .clock) d
 
 -- ---- demand 2: "What the builder writes, the gate reads as the same fields."
 -- the frame that a builder wrote: the first bytes of its space, as many as it says
@@ -142,8 +144,11 @@ extentTo M p a = p * quarter M + a .start + a .size
 abbrev pub Has : State → ℕ → Object → Type 0
 Has s p a = List·Memᴰ a (partitionAt (s .drive .tables) p .objects)
 
--- drive and medium agree with the ledger
+-- drive and medium, of M bytes, agree with the ledger
 pub record Agrees (M : ℕ) (s : State) (l : Ledger) : Type 0 where
+  -- the drive's M, and the medium's length
+  pub size : s .drive .size ≡ M
+  pub medium : length (s .medium) ≡ M
   -- mark, keys, versions, last versions given, objects in the ledger's order
   pub tables : s .drive .tables ≡ tablesOf l
   -- "each object's area of the medium holds its bytes in the ledger"
