@@ -18,4 +18,7 @@ demand1 s c m =
       drive = λ e. subst (λ (d : rules.Drive). MarkAndOutlived (view (s .drive)) d) (sym (m .drive))
           (t .drive (λ z. e (m .row ∙ z)));
       unchanged = m .unchanged;
+      refreshed = λ e f. m .drive ∙ t .refreshed (λ z. e (m .row ∙ z)) (λ z. f (m .row ∙ z));
+      keys = m .keys;
+      tables = m .tables;
     }

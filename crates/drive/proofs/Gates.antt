@@ -116,12 +116,16 @@ drive-not-1 d m x space e = go (firstRow (driveRows d x space) is 0) e
 -- ---- a return of the code that is the rules' answer a meets the promise
 pub meets : (d : Drive) (m : List ℕ) (c : Call) (r : Answer) (after replied : List ℕ) (a : rules·gate.Answer rules.Drive)
     → gate (view d) m c ≡ a → r .row ≡ a .row → r .length ≡ a .length → view (r .drive) ≡ a .drive
-    → (r .row ≡ 1 → r .drive ≡ d) → after ≡ a .medium → replied ≡ a .space → GateMet d m c r after replied
-meets d m c r after replied a g row length drive unchanged medium space = record {
+    → (r .row ≡ 1 → r .drive ≡ d)
+    → ((r .row ≡ 0 → ⊥) → (r .drive .keys ≡ d .keys) × (r .drive .tables ≡ d .tables))
+    → after ≡ a .medium → replied ≡ a .space → GateMet d m c r after replied
+meets d m c r after replied a g row length drive unchanged left medium space = record {
   row = row ∙ sym (ap (λ (b : rules·gate.Answer rules.Drive). b .row) g);
   length = length ∙ sym (ap (λ (b : rules·gate.Answer rules.Drive). b .length) g);
   drive = whole;
   unchanged = unchanged;
+  keys = λ z. left z .0;
+  tables = λ z. left z .1;
   medium = medium ∙ sym (ap (λ (b : rules·gate.Answer rules.Drive). b .medium) g);
   space = space ∙ sym (ap (λ (b : rules·gate.Answer rules.Drive). b .space) g);
   sound = λ h. ap sound whole ∙ gate-sound (view d) m c h;

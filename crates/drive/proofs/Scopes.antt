@@ -84,6 +84,8 @@ pub record Opened : Type 0 where
   pub memory : ℕ
   pub replayed : Bool
   pub viewed : view fresh ≡ refresh clock (view lent)
+  pub keys : fresh .keys ≡ lent .keys
+  pub tables : fresh .tables ≡ lent .tables
   pub counted : CountsFit fresh
   pub whole : sound (view lent) ≡ true
   pub size : length medium ≡ lent .size
@@ -236,7 +238,7 @@ module _ (o : Opened) where
     met-refused z r row length e =
         meets (o .lent) m call r after replied (wholeAnswer (x .cred) (view d) a) gate-is
         (row ∙ given .row) (length ∙ given .length) (ap view e ∙ left) (λ k. absurd (not-1 (sym row ∙ k)))
-        (given .medium) (given .space)
+        (λ n. (ap Drive.keys e ∙ o .keys, ap Drive.tables e ∙ o .tables)) (given .medium) (given .space)
       where
         left : view d ≡ driveWithScope (x .cred) (a .drive) (view d)
         left = sym (restored (view d) (x .cred))
@@ -315,4 +317,4 @@ module _ (o : Opened) where
         met-granted r e = subst (λ (b : Answer). GateMet (o .lent) m call b after replied) (sym e)
             (meets (o .lent) m call (record { row = out .row; length = out .length; drive = back }) after replied
             (wholeAnswer (x .cred) (view d) a) gate-is (given .row) (given .length) back-is (λ k. absurd (not-1 k))
-            (given .medium) (given .space))
+            (λ n. absurd (n grant)) (given .medium) (given .space))

@@ -8,6 +8,7 @@ use lib.ListN.{length}
 use Rattle.lemmas.specs.Lists.{part}
 use Rattle.lemmas.specs.RowTable.{firstRow}
 use Rattle.rules.specs.Demands.{Agrees, callFields, bytesOf, callOperation, MarkAndOutlived, nonce, State}
+use Rattle.rules.specs.Drive.{refresh}
 use Rattle.rules.specs.declared.Operation.the-variants.{Read}
 use Rattle.rules.specs.Gate.{Call}
 use Rattle.rules.specs.Ledger.{bareScope, clocked, Fed, Ledger, ledger, ledgerScope, ledgerStart}
@@ -79,6 +80,12 @@ pub record Demand1 (s : DriveState) (c : CallMade) : Type 0 where
   pub drive : (Granted c → ⊥) → MarkAndOutlived (view (s .drive)) (view (c .answer .drive))
   -- row 1: "it comes back unchanged, mark included", the very record
   pub unchanged : c .answer .row ≡ 1 → c .answer .drive ≡ s .drive
+  -- any other row: the drive with the mark that this call sets, in each memory exactly the entries that it has not outlived
+  pub refreshed : (Granted c → ⊥) → (c .answer .row ≡ 1 → ⊥)
+      → view (c .answer .drive) ≡ refresh (c .call .clock) (view (s .drive))
+  -- and the record's keys and tables are the very ones that came
+  pub keys : (Granted c → ⊥) → c .answer .drive .keys ≡ s .drive .keys
+  pub tables : (Granted c → ⊥) → c .answer .drive .tables ≡ s .drive .tables
 
 -- "Whoever sends a frame, of any length and content, with any clock reading and any space for the reply"
 abbrev pub AllOfDemand1 : Type 0

@@ -29,6 +29,9 @@ pub record GateMet (d : Drive) (m : List ℕ) (c : Call) (r : Answer) (after rep
   pub drive : view (r .drive) ≡ rules·gate.gate (view d) m c .drive
   -- row 1: "it comes back unchanged", the very record
   pub unchanged : r .row ≡ 1 → r .drive ≡ d
+  -- any refusal: keys and tables are the very ones that came, with what no rule sees of them
+  pub keys : (r .row ≡ 0 → ⊥) → r .drive .keys ≡ d .keys
+  pub tables : (r .row ≡ 0 → ⊥) → r .drive .tables ≡ d .tables
   pub medium : after ≡ rules·gate.gate (view d) m c .medium
   pub space : replied ≡ rules·gate.gate (view d) m c .space
   -- a sound drive stays sound

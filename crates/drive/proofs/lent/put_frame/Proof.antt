@@ -226,6 +226,8 @@ opened t =
       memory = k .memory-of .result;
       replayed = t .is-replayed .result;
       viewed = view-of D;
+      keys = refl;
+      tables = refl;
       counted = counted-of D;
       whole = sound-of (at-sound (D .before)) .0;
       size = sound-of (at-sound (D .before)) .1;
@@ -249,7 +251,7 @@ returns c =
     (gate-unready (view d) (a .medium .now) (a .frame .now) (a .clock) (a .reply .now)
     (ready-row1 (view d) (a .medium .now) (b .passes-row1 .result) (tested b)
     ∙ ap not (not-true (b .passes-row1 .result) (c .if1 .taken))))
-    refl refl refl (λ k. refl) refl refl
+    refl refl refl (λ k. refl) (λ n. (refl, refl)) refl refl
 
 drop-outlived-requires : tie.Need-drop-outlived-requires
 drop-outlived-requires c κs = counted (at-sound c) .memories
@@ -267,7 +269,7 @@ returns-2 c =
     λ e. answered-refused f (told .0 .0) t .1 (answered-refused f (told .0 .0) t .0 ∙ e) in
     meets d (a .medium .now) (callOf f (a .clock) (a .reply .now)) _ _ _ _
     (gate-framed (view d) (a .medium .now) f (a .clock) (a .reply .now) (row1-of (at-sound (at-fresh p .before))) z)
-    r refl (view-of (at-fresh p)) (λ k. absurd (frame-not-1 f (sym r ∙ k))) refl refl
+    r refl (view-of (at-fresh p)) (λ k. absurd (frame-not-1 f (sym r ∙ k))) (λ n. (refl, refl)) refl refl
 
 is-replayed-requires : tie.Need-is-replayed-requires
 is-replayed-requires c κs =
