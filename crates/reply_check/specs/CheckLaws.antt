@@ -6,6 +6,7 @@ use mathlib.Core.List.{[], List}
 use Prim.Native.Nat.{_+_, _≤_, ℕ}
 use native.Mathlib.Omega.{arith}
 use lib.ListN.{length}
+use denote.Ref.{now, ptr}
 use borrow.Author.Tests.{eq-eqb, eqb-true, ne-eqb, not-false}
 use Rattle.lemmas.specs.Lists.{every, part}
 use Rattle.lemmas.specs.Parts.{length-part}
@@ -16,7 +17,7 @@ use Rattle.rules.specs.Client.{badRecords, check, checkRows, mostResult, row26,
 use Rattle.rules.specs.Frame.{digestSize, keySize, requestAt}
 use Rattle.rules.specs.Operations.{headSize, replyLength, resultLength}
 use Rattle.fields.specs.Records.{requestIn}
-use Rattle.reply_check.specs.Met.{CheckMet}
+use Rattle.reply_check.specs.Met.{CheckMet, Slice, placeAfter}
 use Rattle.reply_check.specs.Shape.{otherHead, wrongDigest, wrongReply, wrongShape}
 use Rattle.record_rows.specs.BadRecords.{bad-either, request-is-read}
 
@@ -94,7 +95,7 @@ module _ (a b k s : List ℕ) (z : firstRow (checkRows a b k s) ≡ 0) where
   read-whole =
       request-is-read a b (or-l (badRecords a b) (resultLength (requestAt b 0) over mostResult) (check-applies 28))
 
-  result-within : headSize + resultLength (requestAt b 0) ≤ length s
+  pub result-within : headSize + resultLength (requestAt b 0) ≤ length s
   unfolding checkRows applies row30 wrongShape
   result-within =
       let r : Request = requestAt b 0 in
@@ -104,27 +105,19 @@ module _ (a b k s : List ℕ) (z : firstRow (checkRows a b k s) ≡ 0) where
   pub check-end : headSize + resultLength (requestIn b 0) ≤ length s
   check-end = rw read-whole result-within
 
-  pub check-granted : (n : ℕ) → n ≡ resultLength (requestIn b 0) → CheckMet a b k s 0 (part s headSize n)
-  unfolding check
-  check-granted n e = record {
-    row = rw z refl;
-    result = ap (part s headSize) (e ∙ ap resultLength read-whole) ∙ rw z refl;
-  }
+  -- the part of a reply after its head
+  part-long : (n : ℕ) → n ≡ resultLength (requestIn b 0) → length (part s headSize n) ≡ resultLength (requestAt b 0)
+  part-long n e = rw (e ∙ ap resultLength read-whole) (length-part s headSize (resultLength (requestAt b 0)) result-within)
 
-pub check-refused : (a b k s : List ℕ) (row : ℕ) → row ≡ firstRow (checkRows a b k s) → (row ≡ 0 → ⊥)
-    → CheckMet a b k s row []
-unfolding check
-check-refused a b k s row e n = record { row = rw (← e, ne-eqb row 0 n) refl; result = rw (← e, ne-eqb row 0 n) refl }
-
--- ---- the check's start and length, for the solver
+-- ---- the check's start, result and row
 module _ (a b k s : List ℕ) where
   pub found-start : firstRow (checkRows a b k s) ≡ 0 → check a b k s .start ≡ headSize
   unfolding check
   found-start z = rw z refl
 
-  pub found-length : firstRow (checkRows a b k s) ≡ 0 → length (check a b k s .result) ≡ check a b k s .length
+  pub found-result : firstRow (checkRows a b k s) ≡ 0 → check a b k s .result ≡ part s headSize (resultLength (requestAt b 0))
   unfolding check
-  found-length z = rw z (length-part s headSize (resultLength (requestAt b 0)) (result-within a b k s z))
+  found-result z = rw z refl
 
   pub check-row-is : check a b k s .row ≡ firstRow (checkRows a b k s)
   unfolding check
@@ -137,3 +130,27 @@ module _ (a b k s : List ℕ) where
   pub refused-none : (firstRow (checkRows a b k s) ≡ 0 → ⊥) → (check a b k s .start ≡ 0) × (check a b k s .length ≡ 0)
   unfolding check
   refused-none n = let e = ne-eqb (firstRow (checkRows a b k s)) 0 n in (rw e refl, rw e refl)
+
+-- ---- the check's promise
+module _ (a b k : List ℕ) (s p : Slice) where
+  pub check-granted : (z : firstRow (checkRows a b k (now s)) ≡ 0) (n : ℕ) → n ≡ resultLength (requestIn b 0)
+      → now p ≡ part (now s) headSize n → ptr p ≡ placeAfter s headSize
+      → CheckMet a b k s 0 p
+  unfolding check
+  check-granted z n e h at = record {
+    row = rw z refl;
+    result = h ∙ ap (part (now s) headSize) (e ∙ ap resultLength (read-whole a b k (now s) z)) ∙ sym (found-result a b k (now s) z);
+    start = at ∙ ap (placeAfter s) (sym (found-start a b k (now s) z));
+    length = ap length h ∙ part-long a b k (now s) z n e ∙ rw z refl;
+  }
+
+  pub check-refused : (row : ℕ) → row ≡ firstRow (checkRows a b k (now s)) → (row ≡ 0 → ⊥)
+      → now p ≡ [] → ptr p ≡ placeAfter s 0
+      → CheckMet a b k s row p
+  unfolding check
+  check-refused row e n h at = record {
+    row = rw (← e, ne-eqb row 0 n) refl;
+    result = h ∙ rw (← e, ne-eqb row 0 n) refl;
+    start = at ∙ ap (placeAfter s) (sym (refused-none a b k (now s) (λ z. n (e ∙ z)) .0));
+    length = ap length h ∙ rw (← e, ne-eqb row 0 n) refl;
+  }

@@ -80,7 +80,7 @@ pub fn check<'a>(
     reply: &'a [u8],
     row: &mut u32,
 ) -> &'a [u8]
-    ensures { λ r. ⌜ CheckMet (now (credential .entry)) (now (request .entry)) (now (key .entry)) (now (reply .entry)) (now (row .exit)) (now r) ⌝ }
+    ensures { λ r. ⌜ CheckMet (now (credential .entry)) (now (request .entry)) (now (key .entry)) (reply .entry) (now (row .exit)) r ⌝ }
 {
     let found = check_row(credential, request, key, reply);
     *row = found;

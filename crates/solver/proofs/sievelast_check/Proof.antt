@@ -8,13 +8,13 @@ returns : tie.Need-returns
 returns c =
     let a = c .before .before .before .before .before .before .before .args in
     let k = c .before .check in
-    checked-granted (a .credential .now) (a .request .now) (a .key .now) (a .reply .now) (k .last .1 .1 .1 .1 .0) (k .result .now) (k .ensures) (c .if1 .taken)
+    checked-granted (a .credential .now) (a .request .now) (a .key .now) (a .reply) (k .last .1 .1 .1 .1 .0) (k .result) (k .ensures) (c .if1 .taken)
 
 returns-2 : tie.Need-returns-2
 returns-2 c =
     let a = c .before .before .before .before .before .before .before .before .args in
     let k = c .before .before .check in
-    checked-refused (a .credential .now) (a .request .now) (a .key .now) (a .reply .now) (k .last .1 .1 .1 .1 .0) (k .result .now) (k .ensures) (c .before .if1 .left)
+    checked-refused (a .credential .now) (a .request .now) (a .key .now) (a .reply) (k .last .1 .1 .1 .1 .0) (k .result) (k .ensures) (c .before .if1 .left)
 
 pub sievelast-check-spec : {M : Type 1} → statement M
 sievelast-check-spec =
