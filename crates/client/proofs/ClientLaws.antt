@@ -7,7 +7,6 @@ use native.Mathlib.Omega.{arith}
 use lib.Dec.{leb}
 use lib.ListN.{length-append, replicate, take, length}
 use borrow.Author.Tests.{eq-eqb, le-leb, le-ltb, leb-false, leb-true, lt-ltb, ltb-false, ne-eqb}
-use Rattle.lemmas.specs.BigEndian.{length-encode}
 use Rattle.lemmas.specs.Layout.{splice-after-size}
 use Rattle.lemmas.specs.Lists.{every, splice}
 use Rattle.lemmas.specs.Parts.{length-splice, splice-front}
@@ -17,7 +16,7 @@ use Rattle.digest.specs.Hmac.{hmac}
 use Rattle.rules.specs.declared.Credential.{Credential}
 use Rattle.rules.specs.declared.Request.{Request}
 use Rattle.rules.specs.Client.{build, buildRows, frameOf, issue, issueRows}
-use Rattle.rules.specs.Frame.{covered, credential-size, credentialBytes, credentialNumbers, credentialSize, credentialWidths, dataStart, digestSize, keySize, requestSize, requestStart}
+use Rattle.rules.specs.Frame.{covered, credentialBytes, credentialSize, dataStart, digestSize, keySize, length-credential, requestSize, requestStart}
 use Rattle.rules.specs.Rows.{leastFrame}
 use Rattle.rules.proofs.RoundTrip.{records}
 use Rattle.octets.specs.Numbers.{bytesPut}
@@ -85,21 +84,17 @@ module _ (c : Credential) (k s : List ℕ) where
   unfolding issueRows applies every
   issue-clear e = ltb-false (length s) credentialSize (none-applies (issueRows c k s) refl e 29)
 
-  length-credential : length (credentialBytes c) ≡ credentialSize
-  unfolding credentialBytes
-  length-credential = length-encode credentialWidths (credentialNumbers c) ∙ credential-size
-
   pub issue-room : firstRow (issueRows c k s) ≡ 0 → credentialSize ≤ length (credentialPut s c)
   issue-room e =
       let h : credentialSize ≤ length s = issue-clear e in
-      rw (le-leb credentialSize (length s) h) (omega (arith, length-splice s (credentialBytes c) 0 (omega (arith, length-credential)), h))
+      rw (le-leb credentialSize (length s) h) (omega (arith, length-splice s (credentialBytes c) 0 (omega (arith, length-credential c)), h))
 
   pub issue-granted : (r : Issued) → firstRow (issueRows c k s) ≡ 0
       → r .row ≡ 0 → r .key ≡ hmac k (take credentialSize (credentialPut s c)) → IssueMet c k s r (credentialPut s c)
   unfolding issue
   issue-granted r e hr hk =
       let put : credentialPut s c ≡ splice s 0 (credentialBytes c) = rw (le-leb credentialSize (length s) (issue-clear e)) refl in
-      let front : take credentialSize (splice s 0 (credentialBytes c)) ≡ credentialBytes c = splice-front s (credentialBytes c) credentialSize length-credential in
+      let front : take credentialSize (splice s 0 (credentialBytes c)) ≡ credentialBytes c = splice-front s (credentialBytes c) credentialSize (length-credential c) in
       record {
         row = hr ∙ rw e refl;
         key = hk ∙ ap (λ (l : List ℕ). hmac k (take credentialSize l)) put ∙ ap (hmac k) front ∙ rw e refl;

@@ -24,7 +24,7 @@ unfolding LentChain Chain
 lent-chain s [] k = k
 lent-chain s (c ∷ cs) k = (k .0, lent-chain (leftByLent c) cs (k .1))
 
-lent-made : (medium : List ℕ) (F : ℕ) (master key : List ℕ) (d : Drive) (zeroed : List ℕ) (calls : List LentCall)
+pub lent-made : (medium : List ℕ) (F : ℕ) (master key : List ℕ) (d : Drive) (zeroed : List ℕ) (calls : List LentCall)
     → LentFromFormat medium F master key d zeroed calls
     → MadeFromFormat medium F master key (formattedWith 0 d) zeroed (map madeFrom calls)
 lent-made medium F master key d zeroed calls made = record {

@@ -27,3 +27,4 @@ pub mod OpensNothing
 -- frames and replies
 pub mod RoundTrip
 pub mod RepliesBack
+pub mod Demand2

@@ -1,23 +1,24 @@
 -- The customer's demands 1 to 3, as statements about the gate of Gate.antt and the ledger of Ledger.antt.
--- Proved in proofs/: `exact`, `demand1`, `reads-back`, `replies-back`, `demand3`.
+-- Proved in proofs/: `exact`, `demand1`, `demand2`, `demand3`.
 -- d: a drive. m: a medium. c: a call. s: drive and medium. l: a ledger.
 use mathlib.Core.Path.{_≡_}
 use mathlib.Core.Logic.{_↔_, _⊎_}
-use mathlib.Core.Bool.{true}
-use mathlib.Core.Option.{Option·getD, Option·map}
+use mathlib.Core.Bool.{false, true}
+use mathlib.Core.Option.{Option·getD, Option·map, some}
 use mathlib.Core.List.{[], _++_, _∷_, List, List·Memᴰ}
 use Prim.Native.Nat.{_*_, _+_, _<_, _≤_, ℕ}
 use lib.ListN.{getD, take, length}
 use Rattle.lemmas.specs.Lists.{find, keep, part}
-use Rattle.lemmas.specs.RowTable.{clear, firstRow}
+use Rattle.lemmas.specs.RowTable.{clear, firstRow, line}
+use Rattle.rules.specs.declared.Credential.{Credential}
 use Rattle.rules.specs.declared.Entry.{Entry}
 use Rattle.rules.specs.declared.Object.{Object}
-use Rattle.rules.specs.Client.{build, Built, check, frameOf}
+use Rattle.rules.specs.Client.{build, Built, check, frameOf, issue}
 use Rattle.digest.specs.Hmac.{hmac}
-use Rattle.rules.specs.Drive.{Drive, format, lives, partitionAt, quarter, refresh, sound}
+use Rattle.rules.specs.Drive.{Drive, format, Keys, lives, partitionAt, quarter, refresh, sound}
 use Rattle.rules.specs.declared.Operation.{Operation}
 use Rattle.rules.specs.declared.Operation.the-variants.{Read}
-use Rattle.rules.specs.Frame.{covered, credentialAt, Fields, operationOf, requestAt, memoryIndex, fields, entry}
+use Rattle.rules.specs.Frame.{covered, credentialAt, credentialBytes, CredentialFits, credentialSize, Fields, operationOf, requestAt, memoryIndex, fields, entry}
 use Rattle.rules.specs.Gate.{Answer, Call, gate, granted, wholeAnswer}
 use Rattle.rules.specs.Ledger.{
   bareScope,
@@ -31,9 +32,9 @@ use Rattle.rules.specs.Ledger.{
   tablesOf,
   ledgerStart,
 }
-use Rattle.rules.specs.Operations.{headSize, resultLength, perform}
-use Rattle.rules.specs.Scope.{driveScope}
-use Rattle.rules.specs.Rows.{bounds, frameRows, rows}
+use Rattle.rules.specs.Operations.{credentialKey, headSize, keyIn, resultLength, perform}
+use Rattle.rules.specs.Scope.{driveScope, Scope}
+use Rattle.rules.specs.Rows.{bounds, frameRows, row1, row8, row9, rows, scopeRows}
 
 -- ---- the gate grants exactly when no row applies, and a grant is the one that the rules give
 pub record Exact (d : Drive) (m : List ℕ) (c : Call) : Type 0 where
@@ -68,7 +69,31 @@ pub record Demand1 (d : Drive) (m : List ℕ) (c : Call) : Type 0 where
   -- any other row: the drive with the mark that this call sets, in each memory exactly the entries that it has not outlived
   pub refreshed : (gate d m c .row ≡ 0 → ⊥) → (gate d m c .row ≡ 1 → ⊥) → gate d m c .drive ≡ refresh (c .clock) d
 
--- ---- demand 2: "What the builder writes, the gate reads as the same fields."
+-- ---- demand 2: "Every grant, refusal, reply and built frame is the one that document 01 .. give." What the gate grants and what it refuses
+-- is `Exact`; here is the way of a frame from the issuer to the reply check.
+-- "The issuer writes the 36 bytes and returns the credential key": of a credential c that it took, with the key of c's slot
+pub record IssuesBack (c : Credential) (slotKey space : List ℕ) : Type 0 where
+  -- it wrote c's 36 bytes,
+  pub bytes : take credentialSize (issue c slotKey space .space) ≡ credentialBytes c
+  -- which are read as c, alone
+  pub read : credentialAt (credentialBytes c) 0 ≡ c
+  -- and, by the gate, at the start of any frame;
+  pub cred : (rest : List ℕ) → fields (credentialBytes c ++ rest) .cred ≡ c
+  -- and it returned that frame's credential key, wherever c's slot has the key that the issuer was lent
+  pub key : (keys : Keys) (rest : List ℕ) → keyIn keys (c .partition) (c .slot) ≡ some slotKey
+      → credentialKey keys (fields (credentialBytes c ++ rest)) ≡ issue c slotKey space .key
+
+-- a frame under such a credential and key: wherever c's slot has the key that the issuer was lent, rows 8 and 9 do not refuse it,
+pub record Authentic (c : Credential) (slotKey frame : List ℕ) : Type 0 where
+  pub set : (s : Scope Object) → keyIn (s .keys) (c .partition) (c .slot) ≡ some slotKey → row8 s (fields frame .cred) ≡ false
+  pub digest : (s : Scope Object) → keyIn (s .keys) (c .partition) (c .slot) ≡ some slotKey → row9 s (fields frame) ≡ false
+  -- and the gate's row is the first of row 1 and rows 10 to 23 that applies
+  pub row : (d : Drive) (m : List ℕ) (call : Call) → call .frame ≡ frame
+      → keyIn (d .tables .keys) (c .partition) (c .slot) ≡ some slotKey
+      → gate d m call .row ≡ firstRow (line 1 (row1 d m) ∷ scopeRows (driveScope (refresh (call .clock) d) (fields frame .cred))
+      (fields frame .cred) (fields frame .req) (length (call .space)))
+
+-- "What the builder writes, the gate reads as the same fields."
 -- the frame that a builder wrote: the first bytes of its space, as many as it says
 abbrev pub builtFrame : Built → List ℕ
 builtFrame b = take (b .length) (b .space)
@@ -98,6 +123,26 @@ pub record RepliesBack (d : Drive) (m : List ℕ) (c : Call) (credential request
     result = perform (operationOf (fields (c .frame))) (driveScope (refresh (c .clock) d) (fields (c .frame) .cred))
         (fields (c .frame)) m .result;
   }
+
+-- all of demand 2
+pub record AllOfDemand2 : Type 0 where
+  pub exact : (d : Drive) (m : List ℕ) (c : Call) → Exact d m c
+  pub issued : (c : Credential) (slotKey space : List ℕ) → CredentialFits c
+      → issue c slotKey space .row ≡ 0
+      → IssuesBack c slotKey space
+  pub authentic : (c : Credential) (slotKey space request payload room : List ℕ) → CredentialFits c
+      → issue c slotKey space .row ≡ 0
+      → build (credentialBytes c) request payload (issue c slotKey space .key) room .row ≡ 0
+      → Authentic c slotKey (frameOf (credentialBytes c) request payload (issue c slotKey space .key))
+  pub built : (credential request payload key space : List ℕ)
+      → build credential request payload key space .row ≡ 0
+      → ReadsBack credential request payload key space
+  pub replied : (d : Drive) (m : List ℕ) (c : Call) (credential request payload key space : List ℕ)
+      → build credential request payload key space .row ≡ 0
+      → c .frame ≡ frameOf credential request payload key
+      → gate d m c .row ≡ 0
+      → key ≡ credentialKey (d .tables .keys) (fields (c .frame))
+      → RepliesBack d m c credential request key
 
 -- ---- a list of calls: "Each call gets the drive that the last one returned and the medium as it left it"
 pub record State : Type 0 where

@@ -8,7 +8,7 @@ use native.Mathlib.Nat.{add-zero}
 use lib.ListN.{getD, length}
 use Rattle.lemmas.specs.Tests.{_under_, _is_}
 use Rattle.lemmas.specs.Lists.{part}
-use Rattle.lemmas.specs.BigEndian.{AllFit, encode, layoutSize, read-encode, read-left, read-right, readAll}
+use Rattle.lemmas.specs.BigEndian.{AllFit, encode, layoutSize, length-encode, read-encode, read-left, read-right, readAll}
 use Rattle.rules.specs.declared.Credential.{Credential}
 use Rattle.rules.specs.declared.Request.{Request}
 use Rattle.rules.specs.declared.Entry.{Entry}
@@ -72,6 +72,10 @@ credentialBytes c = encode credentialWidths (credentialNumbers c)
 
 abbrev pub credentialMagic : ℕ
 credentialMagic = 0x4c43
+
+-- each of its numbers is one of its field's width, as in every credential that the code holds
+abbrev pub CredentialFits : Credential → Type 0
+CredentialFits c = AllFit credentialWidths (credentialNumbers c)
 
 -- ---- the request, in the same way: its fields start at 0, 2, 3, 4, 12, 16, 20 and 24
 abbrev pub requestWidths : List ℕ
@@ -156,7 +160,11 @@ pub request-size : layoutSize requestWidths ≡ requestSize
 unfolding layoutSize
 request-size = refl
 
-pub credential-read-back : (c : Credential) (p q : List ℕ) → AllFit credentialWidths (credentialNumbers c)
+pub length-credential : (c : Credential) → length (credentialBytes c) ≡ credentialSize
+unfolding credentialBytes
+length-credential c = length-encode credentialWidths (credentialNumbers c) ∙ credential-size
+
+pub credential-read-back : (c : Credential) (p q : List ℕ) → CredentialFits c
     → credentialAt (p ++ (credentialBytes c ++ q)) (length p) ≡ c
 unfolding credentialAt credentialBytes
 credential-read-back c p q fit = ap credentialOf (read-encode credentialWidths (credentialNumbers c) p q fit)
