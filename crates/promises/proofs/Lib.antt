@@ -1,0 +1,3 @@
+-- Demand 2, then the solver's read.
+pub mod Demand2
+pub mod Solver
