@@ -1,5 +1,5 @@
-/* Plays a file of cases for the builder and the reply check (tests/model/src/bin/cases.rs has its layout) against the library that
- * it is linked with, and compares row, start, length and every byte lent.
+/* Plays a file of cases for the issuer, the builder and the reply check (tests/model/src/bin/cases.rs has its layout) against the
+ * archives that it is linked with, and compares row, start, length, key and every byte lent.
  *
  *   cases_test FILE        the last line is 'N cases, 0 differences' */
 #include <inttypes.h>
@@ -8,6 +8,7 @@
 #include <string.h>
 
 #include "sievelast.h"
+#include "sievelast_store.h"
 
 static uint32_t four(const uint8_t *p)
 {
@@ -41,6 +42,45 @@ static int same(const uint8_t *one, const uint8_t *other, size_t length)
     return length == 0 || memcmp(one, other, length) == 0;
 }
 
+/* A space of so many bytes, each the fill; NULL for none. */
+static uint8_t *filled(uint32_t length, uint8_t fill)
+{
+    uint8_t *bytes = length ? malloc(length) : NULL;
+    if (length && !bytes)
+        exit(2);
+    if (length)
+        memset(bytes, fill, length);
+    return bytes;
+}
+
+/* Does the space hold these bytes first, and behind them the fill alone? */
+static int holds(const uint8_t *space, uint32_t space_len, const uint8_t *bytes, uint64_t length, uint8_t fill)
+{
+    if (length > space_len || !same(space, bytes, length))
+        return 0;
+    for (size_t i = length; i < space_len; i++)
+        if (space[i] != fill)
+            return 0;
+    return 1;
+}
+
+/* A credential's fields, by the layout of document 01; the tests of the decoder are elsewhere. */
+static struct sievelast_credential fields(const uint8_t *p)
+{
+    struct sievelast_credential c;
+    c.partition = p[2];
+    c.slot = p[3];
+    c.object = four(p + 4);
+    c.version = four(p + 8);
+    c.rights = (uint16_t)(p[12] << 8 | p[13]);
+    c.least = p[14];
+    c.first = four(p + 16);
+    c.end = four(p + 20);
+    c.expiry = (uint64_t)four(p + 24) << 32 | four(p + 28);
+    c.holder = four(p + 32);
+    return c;
+}
+
 int main(int argc, char **argv)
 {
     FILE *file = argc == 2 ? fopen(argv[1], "rb") : NULL;
@@ -63,22 +103,23 @@ int main(int argc, char **argv)
         }
         cases++;
         if (head[0] == 'B') {
-            uint8_t *frame = part(file, (uint32_t)length);
-            uint8_t *space = space_len ? malloc(space_len) : NULL;
-            if (space_len && !space)
-                return 2;
-            if (space_len)
-                memset(space, head[1], space_len);
+            uint8_t *frame = part(file, (uint32_t)length), *space = filled(space_len, head[1]);
             struct sievelast_built b = sievelast_build(parts[0], lengths[0], parts[1], lengths[1], parts[3], lengths[3], parts[2],
                                                        lengths[2], space, space_len);
-            wrong = b.row != row || b.length != length || length > space_len || !same(space, frame, length);
-            for (size_t i = length; i < space_len; i++)
-                wrong |= space[i] != head[1];
+            wrong = b.row != row || b.length != length || !holds(space, space_len, frame, length, head[1]);
             if (wrong)
                 printf("case %lu: build gives row %" PRIu64 ", length %" PRIu64 "; expected %" PRIu64 ", %" PRIu64 "\n", cases,
                        b.row, b.length, row, length);
             free(space);
             free(frame);
+        } else if (head[0] == 'I') {
+            uint8_t *credential = part(file, (uint32_t)length), *space = filled(space_len, head[1]);
+            struct sievelast_issued i = sievelast_issue(fields(parts[0]), parts[2], lengths[2], space, space_len);
+            wrong = i.row != row || !same(i.key, parts[3], sizeof i.key) || !holds(space, space_len, credential, length, head[1]);
+            if (wrong)
+                printf("case %lu: issue gives row %" PRIu64 "; expected %" PRIu64 "; or key or space differ\n", cases, i.row, row);
+            free(space);
+            free(credential);
         } else {
             struct sievelast_checked c =
                 sievelast_check(parts[0], lengths[0], parts[1], lengths[1], parts[2], lengths[2], parts[3], lengths[3]);

@@ -1,6 +1,6 @@
 #!/bin/sh
 # Each header compiles alone and twice included, as C and as C++, without a warning under the flags that careful houses use; all
-# of them in one program, whichever comes first; and a C++ program over both archives runs (headers.cc).
+# of them in one program, whichever comes first; and a C++ program over both archives runs (headers.cc). Needs gcc, clang and their C++.
 #
 #   tests/c/headers.sh      after rt staticlib solver and rt staticlib store
 set -eu
@@ -24,7 +24,7 @@ compiles() {
 every() {
     compiler=$1 language=$2
     shift 2
-    command -v "$compiler" >/dev/null || { echo "headers: no $compiler here, left out"; return 0; }
+    command -v "$compiler" >/dev/null || fail "there is no $compiler here"
     for standard in "$@"; do
         for header in sievelast.h sievelast_records.h sievelast_store.h; do
             compiles "$compiler" "$language" "$standard" $header $header
@@ -37,18 +37,13 @@ every() {
 for compiler in gcc clang; do every $compiler c c99 c11 c17 gnu17; done
 for compiler in g++ clang++; do every $compiler c++ c++11 c++17 c++20; done
 [ "$(ls "$root"/include | wc -l)" -eq 3 ] || fail 'include/ has other headers than this test'
-[ "$count" -gt 0 ] || fail 'no gcc and no clang here'
 
 # another machine is refused by name
 echo '#include "sievelast.h"' >"$work/source"
 ! ${CC:-cc} -x c -U__LP64__ -I"$root/include" -fsyntax-only "$work/source" 2>"$work/said" || fail 'another machine is not refused'
 grep -q '#error.*x86-64' "$work/said" || fail "another machine is refused by: $(cat "$work/said")"
 
-if command -v "${CXX:-c++}" >/dev/null; then
-    ${CXX:-c++} -std=c++11 -pedantic -Wall -Wextra -Werror -I"$root/include" "$root/tests/c/headers.cc" \
-        "$root/target/staticlib/libsolver.a" "$root/target/staticlib/libstore.a" -o "$work/headers"
-    "$work/headers"
-else
-    echo 'headers: no C++ compiler here, headers.cc left out'
-fi
+${CXX:-c++} -std=c++11 -pedantic -Wall -Wextra -Werror -I"$root/include" "$root/tests/c/headers.cc" \
+    "$root/target/staticlib/libsolver.a" "$root/target/staticlib/libstore.a" -o "$work/headers"
+"$work/headers"
 echo "headers: compiled $count times without a warning"

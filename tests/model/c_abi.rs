@@ -1,4 +1,4 @@
-//! The model behind include/sievelast.h, to test the C tests themselves:
+//! The model behind builder, reply check and issuer of the C headers, to test the C tests themselves:
 //! `rustc --edition 2021 -O --crate-type staticlib tests/model/c_abi.rs --extern model=OUT/libmodel.rlib -o OUT/libmodel_c.a`
 
 #[repr(C)]
@@ -54,4 +54,46 @@ pub unsafe extern "C" fn sievelast_check(
     let (row, start, length) =
         model::client::check(lent(c, c_len), lent(r, r_len), lent(k, k_len), lent(reply, reply_len));
     Checked { row: row as u64, start: start as u64, length: length as u64 }
+}
+
+/// struct sievelast_credential of include/sievelast_records.h.
+#[repr(C)]
+pub struct Fields {
+    expiry: u64,
+    object: u32,
+    version: u32,
+    first: u32,
+    end: u32,
+    holder: u32,
+    rights: u16,
+    partition: u8,
+    slot: u8,
+    least: u8,
+}
+
+#[repr(C)]
+pub struct Issued {
+    row: u64,
+    key: [u8; 32],
+}
+
+#[no_mangle]
+pub unsafe extern "C" fn sievelast_issue(c: Fields, k: *const u8, k_len: usize, space: *mut u8, space_len: usize) -> Issued {
+    let space = if space_len == 0 { &mut [][..] } else { std::slice::from_raw_parts_mut(space, space_len) };
+    let c = model::records::Credential {
+        mark: model::records::CREDENTIAL_MARK,
+        partition: c.partition,
+        slot: c.slot,
+        object: c.object,
+        version: c.version,
+        rights: c.rights,
+        least: c.least,
+        zero: 0,
+        first: c.first,
+        end: c.end,
+        expiry: c.expiry,
+        holder: c.holder,
+    };
+    let (row, key) = model::client::issue(lent(k, k_len), &c, space);
+    Issued { row: row as u64, key }
 }

@@ -1,24 +1,27 @@
-//! `cases SEED COUNT OUT`: cases for the builder and the reply check as C has them, with the model's answers. Prints the counts.
+//! `cases SEED COUNT OUT`: COUNT cases for the builder and the reply check as C has them and a quarter as many for the issuer, with the
+//! model's answers. Prints the counts.
 //!
 //! # The file
 //!
 //! Cases one after another until the file ends, each a head of 40 bytes and then its parts. Numbers are unsigned and big-endian.
 //! ```text
-//!  0       42 (B): sievelast_build; 4B (K): sievelast_check
-//!  1       fill: every byte of the space is set to it before a build
+//!  0       42 (B): sievelast_build; 4B (K): sievelast_check; 49 (I): sievelast_issue
+//!  1       fill: every byte of the space is set to it before a build or an issue
 //!  2 –  3  0
-//!  4 –  7  credential length
-//!  8 – 11  request length
-//! 12 – 15  key length
-//! 16 – 19  data length for a build, reply length for a check
-//! 20 – 23  space length for a build, 0 for a check
+//!  4 –  7  credential length, 36 for an issue: its bytes give the fields
+//!  8 – 11  request length, 0 for an issue
+//! 12 – 15  key length; for an issue it is the slot's key
+//! 16 – 19  data length for a build, reply length for a check, 32 for an issue
+//! 20 – 23  space length for a build or an issue, 0 for a check
 //! 24 – 27  row expected
-//! 28 – 31  start expected of a check, 0 for a build
-//! 32 – 35  length expected
+//! 28 – 31  start expected of a check, 0 for the others
+//! 32 – 35  length expected; of an issue the bytes written
 //! 36 – 39  0
-//! 40 ..    credential, request, key, data or reply; then for a build as many bytes of frame as the length expected
+//! 40 ..    credential, request, key, data or reply, for an issue the credential key expected; then for a build or an issue as many bytes
+//!          of frame or credential as the length expected
 //! ```
-//! After a build the space must hold those bytes of frame and, behind them, the fill; refused, the fill alone. Nothing else may change.
+//! After a build or an issue the space must hold those bytes and, behind them, the fill; refused, the fill alone. Nothing else may
+//! change.
 
 use model::client::{build, check, issue};
 use model::digest::hmac;
@@ -129,6 +132,29 @@ fn build_case(out: &mut Vec<u8>, rng: &mut Rng, parts: &Parts, space: usize) -> 
     assert!(frame[length..].iter().all(|b| *b == fill));
     put(out, b'B', fill, parts, space, row, 0, length);
     out.extend(&frame[..length]);
+    row
+}
+
+/// C's issuer takes fields: mark and zero byte are always the right ones.
+fn issue_case(out: &mut Vec<u8>, rng: &mut Rng) -> u8 {
+    let (mut c, mut r) = valid(rng);
+    for _ in 0..rng.below(4) {
+        damage(rng, &mut c, &mut r);
+    }
+    (c.mark, c.zero) = (CREDENTIAL_MARK, 0);
+    let mut key = rng.bytes(32);
+    if rng.chance(8) {
+        misfit(rng, &mut key);
+    }
+    let space = rng.pick(&[36, 36, 37, 100, 35, 1, 0]);
+    let fill = rng.next() as u8;
+    let mut written = vec![fill; space];
+    let (row, secret) = issue(&key, &c, &mut written);
+    let length = if row == 0 { 36 } else { 0 };
+    assert!(written[length..].iter().all(|b| *b == fill));
+    let parts = Parts { credential: c.bytes(), request: vec![], key, data: secret.to_vec() };
+    put(out, b'I', fill, &parts, space, row, 0, length);
+    out.extend(&written[..length]);
     row
 }
 
@@ -265,6 +291,9 @@ fn main() {
             };
             *counts.entry((name, row, 9)).or_default() += 1;
         }
+    }
+    for _ in 0..count.div_ceil(4) {
+        *counts.entry(("issue", issue_case(&mut out, &mut rng), 0)).or_default() += 1;
     }
     write(path, out).expect("cannot write OUT");
     for ((name, row, why), n) in counts {

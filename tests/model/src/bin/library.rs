@@ -139,10 +139,10 @@ fn main() {
 
     if args.get(5).is_some_and(|a| a == "big") {
         let most = 16_777_216;
-        trace.life(&mut rng, most + 1, 0, &[], &[], 4); // rows 24, 25 and 26 at once
-        trace.life(&mut rng, most + 1, 1, &[0; 32], &[1; 32], 4);
-        trace.life(&mut rng, most, 1, &[0; 32], &[1; 32], 30);
-        trace.life(&mut rng, most, 0, &[0; 32], &[1; 32], 4);
+        trace.life(&mut rng, most + 1, 0, &[], &[], 2); // rows 24, 25 and 26 at once
+        trace.life(&mut rng, most + 1, 1, &[0; 32], &[1; 32], 2);
+        trace.life(&mut rng, most, 1, &[0; 32], &[1; 32], 10);
+        trace.life(&mut rng, most, 0, &[0; 32], &[1; 32], 2);
     }
     let mut left = calls;
     while left > 0 {
