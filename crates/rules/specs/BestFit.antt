@@ -1,5 +1,5 @@
--- Document 01, operation 5: where a new area (extent) starts, in the document's words and as a computation; that both
--- agree, over any step from 1, is proved in proofs/Gaps.antt and proofs/Placing.antt.
+-- Document 01, operation 5: where a new area (extent) starts, in the document's words and as a computation.
+-- That both agree, over any step from 1, is proved in proofs/Gaps.antt and proofs/Placing.antt.
 -- q: the quarter. Starts count from the quarter's start.
 use mathlib.Core.Bool.{Bool, _&&_, _||_, cond}
 use mathlib.Core.Option.{Option, none, some, Option·map}

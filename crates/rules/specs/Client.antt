@@ -105,8 +105,8 @@ pub record Checked : Type 0 where
 abbrev pub mostResult : ℕ
 mostResult = 4_194_304
 
--- 30. "the reply is not the mark, operation, level, result length and total length that the request calls for, or
--- its level 2 digest differs"
+-- 30. "the reply is not the mark, operation, level, result length and total length that the request calls for,
+-- or its level 2 digest differs"
 unfoldable pub row30 : List ℕ → List ℕ → List ℕ → List ℕ → Bool
 row30 credential request key reply =
     let r = requestAt request 0 in

@@ -229,15 +229,16 @@ pub record Demand3 (M : ℕ) (s : State) (l : Ledger) (calls : List Call) : Type
       → Granted s before c
       → Granted s (before ++ (c ∷ between)) d
       → nonce c ≡ nonce d → ⊥
-  -- "Each grant is within its credential's rights, expiry and .. range. It is under the key and .. the version
-  -- that the format or earlier grants put there": rows 8–10 and 13–17, by the ledger before the call with the mark
-  -- that this call sets
+  -- "Each grant is within its credential's rights, expiry and .. range.
+  -- It is under the key and .. the version that the format or earlier grants put there":
+  -- rows 8–10 and 13–17, by the ledger before the call with the mark that this call sets
   pub kept : (before later : List Call) (c : Call)
       → calls ≡ before ++ (c ∷ later)
       → Granted s before c
       → firstRow (bounds (bareScope (ledgerScope M (clocked (c .clock) (ledgerAfterCalls M s l before)) (callFields c .cred))) (callFields c)) ≡ 0
-  -- "Each granted read shows, for every byte, exactly the last granted write to it since that object's creation,
-  -- or zero": after the reply's head, the bytes from A up to A + B of the ledger's object
+  -- "Each granted read shows, for every byte,
+  -- exactly the last granted write to it since that object's creation, or zero":
+  -- after the reply's head, the bytes from A up to A + B of the ledger's object
   pub shown : (before later : List Call) (c : Call) (A B : ℕ)
       → calls ≡ before ++ (c ∷ later)
       → Granted s before c

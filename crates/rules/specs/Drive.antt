@@ -1,5 +1,5 @@
--- Document 01, "Drive state": what a drive holds, the sound record, the mark, the nonce memories, and format with
--- rows 24 to 26.
+-- Document 01, "Drive state": what a drive holds, the sound record, the mark, the nonce memories,
+-- and format with rows 24 to 26.
 -- d: a drive. t: its tables. p: a partition. q: the quarter.
 use mathlib.Core.Bool.{Bool, _&&_, _||_, cond}
 use mathlib.Core.Option.{Option, none, some}

@@ -1,5 +1,5 @@
--- Document 01, "The ledger of demand 3": what it holds, how it starts, what each call does to it. M: the medium's
--- size.
+-- Document 01, "The ledger of demand 3": what it holds, how it starts, what each call does to it.
+-- M: the medium's size.
 use mathlib.Core.Bool.{cond}
 use mathlib.Core.Option.{some}
 use mathlib.Core.List.{List, [], _∷_, _++_, map}
@@ -16,8 +16,8 @@ use Rattle.rules.specs.Drive.{Partition, partitionWith, Tables, withHigh
 use Rattle.rules.specs.Scope.{Scope, withPartition, withKeys, tablesScope, withScope}
 use Rattle.rules.specs.Operations.{placementStart, nextVersion, withVersion, keySet}
 
--- ---- "It holds a mark, the keys, and for each partition its version, the last version given and its objects ..,
--- each with number, version, area and bytes"
+-- ---- "It holds a mark, the keys, and for each partition its version, the last version given
+-- and its objects in order of creation, each with number, version, area and bytes."
 pub record LedgerObject : Type 0 where
   pub object : Object
   pub bytes : List ℕ

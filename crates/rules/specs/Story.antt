@@ -87,9 +87,10 @@ pub record VersionsOnce (M : ℕ) (l : Ledger) (calls : List Fed) : Type 0 where
       → Renews p n c
       → versionOf (ledger M l (before ++ (c ∷ between))) p n ≡ some v → ⊥
 
--- ---- "A scanner head sends a frame with a credential and writes a log's shape; I send a frame with another
--- credential and get the shape back": c is granted and reads, writes or looks at (operations 1 to 3) object n of
--- partition p, with version v in its credential
+-- ---- "A scanner head sends a frame with a credential and writes a log's shape;
+-- I send a frame with another credential and get the shape back":
+-- c is granted and reads, writes or looks at (operations 1 to 3) object n of partition p, with version v in its
+-- credential
 pub record Uses (p n v : ℕ) (c : Fed) : Type 0 where
   pub granted : c .row ≡ 0
   pub operation : fedFields c .req .operation ≤ 3
@@ -111,10 +112,10 @@ rewritten p n [] b = b
 rewritten p n (c ∷ cs) b =
     rewritten p n cs (cond (writes p n c) (splice b (fedFields c .req .A) (fedFields c .payload)) b)
 
--- "The shape I read belongs to one log. .. A credential .. that was made for the log before, opens nothing. .. a
--- version is raised before a log changes hands": where two granted uses c and d name one object and one version, it
--- was the same log from c to d. So "an expiry, a version change and a late frame between two parts of one read" end in
--- a refusal
+-- "The shape I read belongs to one log. .. A credential .. that was made for the log before, opens nothing. ..
+-- a version is raised before a log changes hands":
+-- where two granted uses c and d name one object and one version, it was the same log from c to d. So
+-- "an expiry, a version change and a late frame between two parts of one read" end in a refusal
 pub record OneLog (M : ℕ) (l : Ledger) (calls : List Fed) : Type 0 where
   -- no grant between them raised, deleted or created that object: one creation of it, in one version
   pub unbroken : (before between later : List Fed) (c d e : Fed) (p n v : ℕ)

@@ -1,5 +1,6 @@
--- Document 01, "Operations" and "Levels": the whole reply, whatever fits or does not.
--- h: a keyed hash, whatever it took. q: the request's numbers. n: how long the result is. c: where the operation works. m: the medium. r: the reply space.
+-- Document 01, the end of "Operations": the whole reply, whatever fits or does not.
+-- h: a keyed hash, whatever it took. q: the request's numbers. n: how long the result is. c: where the operation works.
+-- m: the medium. r: the reply space.
 use mathlib.Core.Bool.{cond}
 use mathlib.Core.List.{List}
 use Prim.Native.Nat.{ℕ, _+_}

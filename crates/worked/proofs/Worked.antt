@@ -1,4 +1,4 @@
--- A list of calls to a fresh drive of 64 bytes, F = 1, and what the gate answers, computed without computing HMAC. It
+-- A list of calls to a fresh drive of 256 bytes, F = 1, and what the gate answers, computed without computing HMAC. It
 -- meets every row of the gate from 2 on but 21, and a grant of every operation; 21 needs another F, and row 1 another
 -- record or medium.
 use mathlib.Core.Path.{_∙_, _≡_, ap, refl, subst, sym}
