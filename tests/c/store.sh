@@ -92,7 +92,8 @@ m() {
     ./manager "$m_command" mill "$@"
 }
 shape() { ./solver shape mill/socket "$1.credential" "$1.key"; }
-milliseconds() { date +%s%3N; }
+# a time for a frame that is put twice: as late as the window of 5000 lets it be, but a second, so that a slow machine is in time too
+milliseconds() { echo $(($(date +%s%3N) + 4000)); }
 # a server that must not come up; one that does is ended
 no_server() { timeout 5 ./store serve "$@"; }
 
