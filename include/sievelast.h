@@ -7,6 +7,15 @@
  *       data length is not data_len; for the check also: the request calls for a result of over 4,194,304 bytes
  *   29  the space is too short for the frame (96 bytes and the data)
  *   30  the reply is not the one that the request calls for: its mark, operation, level, a length, or its level 2 digest
+ *
+ * Who wrote the reply. Only level 2 tells: there the drive's reply has a digest under the credential key, over credential, request
+ * and result. At levels 0 and 1 the check sees that the reply has the form that the request calls for, and no more: whoever can write
+ * on the wire can put any bytes there. A program that believes what it reads asks at SIEVELAST_LEVEL_REPLY.
+ *
+ * One case is left at level 2, by the layouts themselves: the frame of a write of exactly the eight bytes 4C 41 02 02 00 00 00 00 has
+ * for its digest that of its own reply, "granted". Whoever reads that frame on the wire can send this reply before the drive does, or
+ * for a frame that the drive never got. No other write and no read is concerned (docs/DECISIONS.md, 13). Do not write these eight
+ * bytes alone, or look whether the write was done.
  */
 #ifndef SIEVELAST_H
 #define SIEVELAST_H
@@ -36,7 +45,7 @@ struct sievelast_built sievelast_build(const uint8_t *credential, size_t credent
                                        size_t key_len, uint8_t *space, size_t space_len);
 
 /* Checks a drive's reply against the credential and request of its frame, and says where in it the result is. At level 2
- * the reply's digest is checked under the credential key. Only a result with row 0 may be believed. */
+ * the reply's digest is checked under the credential key. Only a result with row 0 may be used, and only one of level 2 believed. */
 struct sievelast_checked sievelast_check(const uint8_t *credential, size_t credential_len, const uint8_t *request,
                                          size_t request_len, const uint8_t *key, size_t key_len, const uint8_t *reply,
                                          size_t reply_len);
