@@ -43,7 +43,7 @@ use Rattle.promises.specs.Calls.{
 }
 
 -- ---- "The issuer writes the 36 bytes and returns the credential key"
--- c's slot has the key that the issuer of c was lent
+-- the credential's slot has the key that its issuer was lent
 abbrev pub SlotHas : Keys → IssueMade → Type 0
 SlotHas keys i = keyIn keys (i .credential .partition) (i .credential .slot) ≡ some (i .slotKey)
 
