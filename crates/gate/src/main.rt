@@ -1,20 +1,22 @@
 // The program `gate` (document 01, "Client end"): puts each input record of standard input to the gate of a freshly
 // formatted drive, and prints a line for each. All records that have arrived whole are answered, and their lines
 // written, before it waits for more; it reads and writes by buffers, and its memory does not grow with the input.
+mod logged;
+
 ghost use mathlib.Core.Path.{_≡_};
 ghost use mathlib.Core.Bool.{true, false, cond};
 ghost use Prim.Native.Nat.{_+_, _-_, _≤_, _<_, _^_};
 ghost use lib.ListN.{length};
 ghost use Rattle.lemmas.specs.Lists.{part, splice};
-ghost use Rattle.rules.specs.Program.{cut};
+ghost use Rattle.rules.specs.Program.{cut, formatted};
 ghost use Rattle.rules.specs.Program.{ended as Program·ended};
 ghost use Rattle.lines.specs.Text.{TextPut};
 ghost use Rattle.drive.specs.Chain.{stateOf};
 ghost use Rattle.gate.specs.Answered.{replySize};
-ghost use Rattle.gate.specs.Promises.{inputSize, lineSize, inputLimit, WholeRecordMet, AnswerRecordsMet, DrainMet, PendingFits, MakeRoomMet, RefillMet, LoopInvariant};
+ghost use Rattle.gate.specs.Log.{Added};
+ghost use Rattle.gate.specs.Promises.{inputSize, lineSize, WholeRecordMet, AnswerRecordsMet, DrainMet, PendingFits, MakeRoomMet, RefillMet};
+ghost use Rattle.gate.specs.Rounds.{stoppedState, EndInputMet, ArrivedRequires, ArrivedMet, RoundRequires, RoundMet, RunMet};
 use drive::Answer;
-use libc::STDIN_FILENO;
-use libc::STDOUT_FILENO;
 use record::Arrived;
 
 // The pending bytes move to the front of the input buffer where less than this is free behind them.
@@ -45,11 +47,12 @@ struct Batch {
 }
 
 // All answers to some input: the drive after them, how many bytes of the input they took, how many calls there have
-// been, and whether the output could be written.
+// been, how many bytes the log of the output has, and whether the output could be written.
 struct Progress {
     drive: drive::Drive,
     taken: usize,
     calls: u64,
+    logged: usize,
     written: bool,
 }
 
@@ -59,28 +62,36 @@ struct Pending {
     to: usize,
 }
 
-// How many bytes a read brought, 0 at the end of the input; and whether it failed.
-struct ReadResult {
-    count: usize,
-    failed: bool,
-}
-
-// The pending input after a read, how many bytes the read brought, and whether it failed.
+// The pending input after a read, how many bytes the read brought, whether it failed, and how many bytes the log of the
+// input has.
 struct Refilled {
     from: usize,
     to: usize,
     count: usize,
     failed: bool,
+    logged: usize,
+}
+
+// Whether the loop goes on; or why it stops: the input has ended, an input record is malformed, the rest of the input
+// can't be read, the output can't be written.
+enum Outcome {
+    Running,
+    Ended,
+    Malformed,
+    Unread,
+    Unwritten,
 }
 
 // The loop's state between two reads: the drive, how many calls there have been, how many bytes were read, the pending
-// input, and whether to go on.
+// input, how many bytes the logs of input and output have, and whether the loop goes on.
 struct LoopState {
     drive: drive::Drive,
     calls: u64,
     received: u64,
     pending: Pending,
-    running: bool,
+    inlogged: usize,
+    outlogged: usize,
+    outcome: Outcome,
 }
 
 fn input_buffer() -> [u8; INPUT_SIZE]
@@ -156,26 +167,31 @@ fn drain(
     calls: u64,
     reply: &mut [u8],
     out: &mut [u8],
+    outlog: &mut [u8],
+    at: usize,
 ) -> Progress
-    requires { ⌜ (calls + length (now input) < 2 ^ 64) × (lineSize ≤ length (now out)) × (length (now reply) ≡ replySize) ⌝ }
-    ensures { λ r. ⌜ DrainMet (now (input .entry)) calls r ⌝ }
+    requires { ⌜ (calls + length (now input) < 2 ^ 64) × (lineSize ≤ length (now out)) × (length (now reply) ≡ replySize) × (at ≤ length (now outlog)) ⌝ }
+    ensures { λ r. ⌜ DrainMet (stateOf drive (now (medium .entry))) calls (now (input .entry)) (now (outlog .entry)) at r (now (medium .exit)) (now (outlog .exit)) ⌝ }
 {
     let mut d = drive;
     let mut taken: usize = 0;
     let mut n = calls;
+    let mut end = at;
     loop {
         let b = answer_records(d, medium, &input[taken..], n, reply, out);
         let put = b.put;
         d = b.drive;
         n = b.calls;
         taken += b.taken;
-        let written = io::write_all(STDOUT_FILENO, &out[..put]);
-        if (b.taken == 0) | !written {
+        let w = logged::write(&out[..put], outlog, end);
+        end = w.logged;
+        if (b.taken == 0) | !w.written {
             return Progress {
                 drive: d,
                 taken,
                 calls: n,
-                written,
+                logged: end,
+                written: w.written,
             };
         }
     }
@@ -213,18 +229,6 @@ fn make_room(input: &mut [u8], pending: Pending) -> Pending
     }
 }
 
-// One read. The space is not empty, so that 0 bytes mean the end of the input.
-fn read_once(space: &mut [u8]) -> ReadResult
-    requires { ⌜ 0 < length (now space) ⌝ }
-    ensures { λ r. ⌜ r .count ≤ length (now (space .entry)) ⌝ }
-{
-    let got = libc::read(STDIN_FILENO, space);
-    ReadResult {
-        count: io::count(got, space),
-        failed: got < 0,
-    }
-}
-
 // The last line: `end` where the input has ended after a whole record, else `cut`.
 fn last_line(out: &mut [u8], ended: bool, calls: u64) -> usize
     ensures { λ r. ⌜ TextPut (now (out .entry)) 0 (cond ended (Program·ended calls) (cut calls)) r (now (out .exit)) ⌝ }
@@ -236,89 +240,147 @@ fn last_line(out: &mut [u8], ended: bool, calls: u64) -> usize
     }
 }
 
-// Writes the last line.
-fn finish(out: &mut [u8], ended: bool, calls: u64) {
+// Writes the last line, and tells how many bytes the log of the output then has.
+fn finish(out: &mut [u8], ended: bool, calls: u64, outlog: &mut [u8], at: usize) -> usize
+    requires { ⌜ (lineSize ≤ length (now out)) × (at ≤ length (now outlog)) ⌝ }
+    ensures { λ r. ⌜ Added (now (outlog .entry)) at (cond ended (Program·ended calls) (cut calls)) (now (outlog .exit)) r ⌝ }
+{
     let n = last_line(out, ended, calls);
-    io::write_all(STDOUT_FILENO, &out[..n]);
+    let w = logged::write(&out[..n], outlog, at);
+    w.logged
 }
 
 // Makes room in the input buffer and reads once, behind the pending bytes.
-fn refill(input: &mut [u8], pending: Pending) -> Refilled
-    requires { ⌜ PendingFits pending × (length (now input) ≡ inputSize) ⌝ }
-    ensures { λ r. ⌜ RefillMet pending r ⌝ }
+fn refill(input: &mut [u8], pending: Pending, inlog: &mut [u8], at: usize) -> Refilled
+    requires { ⌜ PendingFits pending × (length (now input) ≡ inputSize) × (at ≤ length (now inlog)) ⌝ }
+    ensures { λ r. ⌜ RefillMet (now (input .entry)) pending (now (inlog .entry)) at (now (input .exit)) r (now (inlog .exit)) ⌝ }
 {
     let p = make_room(input, pending);
     let from = p.from;
     let end = p.to;
-    let got = read_once(&mut input[end..]);
+    let got = logged::read(&mut input[end..], inlog, at);
     Refilled {
         from,
         to: end + got.count,
         count: got.count,
         failed: got.failed,
+        logged: got.logged,
     }
 }
 
-// One read, and the answers to all records that are whole by then. The loop stops where the input has ended, an input
-// record is malformed, a read has failed or the output can no longer be written. A failed read is no end of the input:
-// more may have been to come, so the last line is then `cut`.
+// The state in which the loop stops.
+fn stopped(t: LoopState, inlogged: usize, outlogged: usize, outcome: Outcome) -> LoopState
+    ensures { λ r. ⌜ r ≡ stoppedState t inlogged outlogged outcome ⌝ }
+{
+    let d = t.drive;
+    let none = Pending { from: 0, to: 0 };
+    LoopState {
+        drive: d,
+        calls: t.calls,
+        received: t.received,
+        pending: none,
+        inlogged,
+        outlogged,
+        outcome,
+    }
+}
+
+// The end of the loop after a read that brought no byte. A failed read is no end of the input: more may have been to
+// come, so the last line is then `cut`.
+fn end_input(t: LoopState, f: Refilled, out: &mut [u8], outlog: &mut [u8]) -> LoopState
+    requires { ⌜ (lineSize ≤ length (now out)) × (t .outlogged ≤ length (now outlog)) ⌝ }
+    ensures { λ r. ⌜ EndInputMet t f (now (outlog .entry)) r (now (outlog .exit)) ⌝ }
+{
+    let at = t.outlogged;
+    if f.failed {
+        let end = finish(out, false, t.calls, outlog, at);
+        return stopped(t, f.logged, end, Outcome::Unread);
+    }
+    let end = finish(out, f.from == f.to, t.calls, outlog, at);
+    stopped(t, f.logged, end, Outcome::Ended)
+}
+
+// The answers to all records that are whole after a read.
+fn answer_arrived(
+    t: LoopState,
+    f: Refilled,
+    medium: &mut [u8],
+    input: &[u8],
+    reply: &mut [u8],
+    out: &mut [u8],
+    outlog: &mut [u8],
+) -> LoopState
+    requires { ⌜ ArrivedRequires t f (now input) (now reply) (now out) (now outlog) ⌝ }
+    ensures { λ r. ⌜ ArrivedMet t f (now (medium .entry)) (now (input .entry)) (now (outlog .entry)) r (now (medium .exit)) (now (outlog .exit)) ⌝ }
+{
+    let d = t.drive;
+    let from = f.from;
+    let to = f.to;
+    let p = drain(
+        d,
+        medium,
+        &input[from..to],
+        t.calls,
+        reply,
+        out,
+        outlog,
+        t.outlogged,
+    );
+    let e = p.drive;
+    let at = from + p.taken;
+    let left = Pending { from: at, to };
+    let next = LoopState {
+        drive: e,
+        calls: p.calls,
+        received: t.received + f.count as u64,
+        pending: left,
+        inlogged: f.logged,
+        outlogged: p.logged,
+        outcome: Outcome::Running,
+    };
+    if !p.written {
+        return stopped(next, f.logged, p.logged, Outcome::Unwritten);
+    }
+    if record::is_malformed(&input[at..to]) {
+        let end = finish(out, false, p.calls, outlog, p.logged);
+        return stopped(next, f.logged, end, Outcome::Malformed);
+    }
+    next
+}
+
+// One read, and the answers to all records that are whole by then.
 fn read_and_answer(
     t: LoopState,
     medium: &mut [u8],
     input: &mut [u8],
     reply: &mut [u8],
     out: &mut [u8],
+    inlog: &mut [u8],
+    outlog: &mut [u8],
 ) -> LoopState
-    requires { ⌜ LoopInvariant t × (t .received < inputLimit) × (length (now input) ≡ inputSize) × (lineSize ≤ length (now out)) × (length (now reply) ≡ replySize) ⌝ }
-    ensures { λ r. ⌜ (r .running ≡ true → LoopInvariant r × (t .received < r .received)) ⌝ }
+    requires { ⌜ RoundRequires t (now input) (now reply) (now out) (now inlog) (now outlog) ⌝ }
+    ensures { λ r. ⌜ RoundMet t (now (medium .entry)) (now (input .entry)) (now (inlog .entry)) (now (outlog .entry)) r (now (medium .exit)) (now (input .exit)) (now (inlog .exit)) (now (outlog .exit)) ⌝ }
 {
-    let d = t.drive;
     let pending = t.pending;
-    let calls = t.calls;
-    let f = refill(input, pending);
-    let from = f.from;
-    let to = f.to;
+    let f = refill(input, pending, inlog, t.inlogged);
     if f.count == 0 {
-        finish(out, (from == to) & !f.failed, calls);
-        return stopped(d, calls);
+        return end_input(t, f, out, outlog);
     }
-    let p = drain(d, medium, &input[from..to], calls, reply, out);
-    let e = p.drive;
-    if !p.written {
-        return stopped(e, p.calls);
-    }
-    let at = from + p.taken;
-    if record::is_malformed(&input[at..to]) {
-        finish(out, false, p.calls);
-        return stopped(e, p.calls);
-    }
-    let left = Pending { from: at, to };
-    LoopState {
-        drive: e,
-        calls: p.calls,
-        received: t.received + f.count as u64,
-        pending: left,
-        running: true,
-    }
+    answer_arrived(t, f, medium, input, reply, out, outlog)
 }
 
-// The state in which the loop stops.
-fn stopped(drive: drive::Drive, calls: u64) -> LoopState
-    ensures { λ r. ⌜ r .running ≡ false ⌝ }
-{
-    let none = Pending { from: 0, to: 0 };
-    LoopState {
-        drive,
-        calls,
-        received: 0,
-        pending: none,
-        running: false,
-    }
-}
-
-// Reads and answers until the loop stops.
-fn run(drive: drive::Drive, medium: &mut [u8], input: &mut [u8], reply: &mut [u8], out: &mut [u8])
-    requires { ⌜ (length (now input) ≡ inputSize) × (lineSize ≤ length (now out)) × (length (now reply) ≡ replySize) ⌝ }
+// Reads and answers until the loop stops: document 01's program, from a freshly formatted drive.
+fn run(
+    drive: drive::Drive,
+    medium: &mut [u8],
+    input: &mut [u8],
+    reply: &mut [u8],
+    out: &mut [u8],
+    inlog: &mut [u8],
+    outlog: &mut [u8],
+) -> LoopState
+    requires { ⌜ (stateOf drive (now medium) ≡ formatted) × (length (now input) ≡ inputSize) × (lineSize ≤ length (now out)) × (length (now reply) ≡ replySize) ⌝ }
+    ensures { λ r. ⌜ RunMet r (now (medium .exit)) (now (inlog .exit)) (now (outlog .exit)) ⌝ }
 {
     let none = Pending { from: 0, to: 0 };
     let mut t = LoopState {
@@ -326,15 +388,20 @@ fn run(drive: drive::Drive, medium: &mut [u8], input: &mut [u8], reply: &mut [u8
         calls: 0,
         received: 0,
         pending: none,
-        running: true,
+        inlogged: 0,
+        outlogged: 0,
+        outcome: Outcome::Running,
     };
     while t.received < INPUT_LIMIT {
-        t = read_and_answer(t, medium, input, reply, out);
-        if !t.running {
-            return;
-        }
+        t = read_and_answer(t, medium, input, reply, out, inlog, outlog);
+        let o = t.outcome;
+        let Outcome::Running = o else {
+            return t;
+        };
     }
-    finish(out, false, t.calls);
+    let at = t.outlogged;
+    let end = finish(out, false, t.calls, outlog, at);
+    stopped(t, t.inlogged, end, Outcome::Unread)
 }
 
 fn main() {
@@ -342,7 +409,17 @@ fn main() {
     let mut input = input_buffer();
     let mut reply = io::large_buffer();
     let mut out = io::large_buffer();
+    let mut inlog: [u8; 0] = [];
+    let mut outlog: [u8; 0] = [];
     let f = drive::format(&mut medium, 1, &[0u8; 32], &[1u8; 32]);
     let d = f.drive;
-    run(d, &mut medium, &mut input, &mut reply, &mut out);
+    run(
+        d,
+        &mut medium,
+        &mut input,
+        &mut reply,
+        &mut out,
+        &mut inlog,
+        &mut outlog,
+    );
 }
