@@ -5,15 +5,17 @@ ghost use mathlib.Core.Path.{_≡_};
 ghost use lib.ListN.{length};
 use drive::Answer;
 use drive::Drive;
+use frames::four;
 use lemmas::smaller;
 use libc::STDIN_FILENO;
 use player::Player;
-use scenario_script::frames::four;
-use scenario_script::script;
-use scenario_script::words;
-use scenario_script::words::NUMBERS;
+use words::NUMBERS;
 
+mod frames;
 mod player;
+mod say;
+mod script;
+mod words;
 
 // A proved loop has to end, and a script can lead back to itself: after so many lines the program gives up.
 const LINE_LIMIT: u64 = 100000;

@@ -1,12 +1,12 @@
 // Plays one line of the script, but for what the line does to the drive. `words` names the places of the player's numbers.
 ghost use Prim.Native.Nat.{_<_};
-use scenario_script::frames;
-use scenario_script::frames::four;
-use scenario_script::frames::one;
-use scenario_script::say;
-use scenario_script::script;
-use scenario_script::words;
-use scenario_script::words::NUMBERS;
+use crate::frames;
+use crate::frames::four;
+use crate::frames::one;
+use crate::say;
+use crate::script;
+use crate::words;
+use crate::words::NUMBERS;
 
 // The sizes of the drive's key store, of its tables and of one partition's table; how many keys there are, how long one is.
 const KEYS: usize = keyring::KEYS;

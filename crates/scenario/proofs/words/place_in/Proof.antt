@@ -2,8 +2,8 @@
 use Prim.Native.Nat.{_≤_, _-_}
 use native.Mathlib.Omega.{arith}
 use borrow.Author.Needs.{needs}
-use Rattle.scenario_script.proofs.words.place_in.Statement.{statement}
-use Rattle.scenario_script.proofs.words.place_in.Tie as tie
+use Rattle.scenario.proofs.words.place_in.Statement.{statement}
+use Rattle.scenario.proofs.words.place_in.Tie as tie
 
 abbrev Inv-loop : tie.InvT-loop
 Inv-loop table word k₀ k = k ≤ 45

@@ -3,8 +3,8 @@ use Prim.Native.Nat.{_≤_, _-_}
 use native.Mathlib.Omega.{arith}
 use lib.ListN.{length}
 use borrow.Author.Needs.{needs}
-use Rattle.scenario_script.proofs.script.number_at.Statement.{statement}
-use Rattle.scenario_script.proofs.script.number_at.Tie as tie
+use Rattle.scenario.proofs.script.number_at.Statement.{statement}
+use Rattle.scenario.proofs.script.number_at.Tie as tie
 
 abbrev Inv-loop : tie.InvT-loop
 Inv-loop s at x₀ i₀ x i = at ≤ i

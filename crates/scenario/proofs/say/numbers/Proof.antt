@@ -3,8 +3,8 @@ use Prim.Native.Nat.{_≤_, _-_}
 use native.Mathlib.Omega.{arith}
 use lib.ListN.{length}
 use borrow.Author.Needs.{needs}
-use Rattle.scenario_script.proofs.say.numbers.Statement.{statement}
-use Rattle.scenario_script.proofs.say.numbers.Tie as tie
+use Rattle.scenario.proofs.say.numbers.Statement.{statement}
+use Rattle.scenario.proofs.say.numbers.Tie as tie
 
 abbrev Inv-loop : tie.InvT-loop
 Inv-loop label xs i₀ t5 i = i ≤ length xs

@@ -2,8 +2,8 @@
 use Prim.Native.Nat.{_≤_, _-_}
 use native.Mathlib.Omega.{arith}
 use borrow.Author.Needs.{needs}
-use Rattle.scenario_script.proofs.script.word_start.Statement.{statement}
-use Rattle.scenario_script.proofs.script.word_start.Tie as tie
+use Rattle.scenario.proofs.script.word_start.Statement.{statement}
+use Rattle.scenario.proofs.script.word_start.Tie as tie
 
 abbrev Inv-loop : tie.InvT-loop
 Inv-loop s from k at₀ i₀ at i = i ≤ k

@@ -3,8 +3,8 @@ use Prim.Native.Nat.{_≤_, _-_}
 use native.Mathlib.Omega.{arith}
 use lib.ListN.{length}
 use borrow.Author.Needs.{needs}
-use Rattle.scenario_script.proofs.script.part_start.Statement.{statement}
-use Rattle.scenario_script.proofs.script.part_start.Tie as tie
+use Rattle.scenario.proofs.script.part_start.Statement.{statement}
+use Rattle.scenario.proofs.script.part_start.Tie as tie
 
 abbrev Inv-loop : tie.InvT-loop
 Inv-loop script by at₀ at = at₀ ≤ at

@@ -2,8 +2,8 @@
 use Prim.Native.Nat.{_≤_, _-_}
 use native.Mathlib.Omega.{arith}
 use lib.ListN.{length}
-use Rattle.scenario_script.proofs.script.find.Statement.{statement}
-use Rattle.scenario_script.proofs.script.find.Tie as tie
+use Rattle.scenario.proofs.script.find.Statement.{statement}
+use Rattle.scenario.proofs.script.find.Tie as tie
 
 abbrev Inv-loop : tie.InvT-loop
 Inv-loop s from b i₀ i = from ≤ i
