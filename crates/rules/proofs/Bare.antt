@@ -32,7 +32,7 @@ use Rattle.rules.specs.Ledger.{
   ledgerWritten,
   withBytesWritten,
 }
-use Rattle.rules.specs.Operations.{created, deleted, noObject, perform, placement, raised, placementStart, withVersion}
+use Rattle.rules.specs.Operations.{created, deleted, nextVersion, noObject, perform, placement, raised, placementStart, withVersion}
 use Rattle.rules.specs.Scope.{withScope, Scope, withMemory}
 
 pub bare-at : (l : Ledger) (p : ℕ) → partitionAt (tablesOf l) p ≡ bare (partitionAt l p)
@@ -53,11 +53,11 @@ unfolding ledgerRaised raised
 bare-raised n p = objects-with (raised n (bare p)) (go (n is 0))
   where
     go : (b : Bool)
-        → map LedgerObject.object (cond b (p .objects) (change numberOf n (ledgerWithVersion (p .last + 1)) (p .objects)))
-        ≡ cond b (map LedgerObject.object (p .objects)) (change Object.number n (withVersion (p .last + 1))
+        → map LedgerObject.object (cond b (p .objects) (change numberOf n (ledgerWithVersion (nextVersion p)) (p .objects)))
+        ≡ cond b (map LedgerObject.object (p .objects)) (change Object.number n (withVersion (nextVersion p))
         (map LedgerObject.object (p .objects)))
     go true = refl
-    go false = change-map LedgerObject.object Object.number n (ledgerWithVersion (p .last + 1)) (withVersion (p .last + 1))
+    go false = change-map LedgerObject.object Object.number n (ledgerWithVersion (nextVersion p)) (withVersion (nextVersion p))
         (λ h. refl) (p .objects)
 
 bare-created : (number size start : ℕ) (p : Partition LedgerObject)

@@ -23,7 +23,7 @@ use Rattle.rules.specs.declared.Operation.{Operation}
 use Rattle.rules.specs.declared.Operation.the-variants.{Create, Delete, Look, Raise, Read, SetKey, Write}
 use Rattle.rules.specs.Frame.{Fields}
 use Rattle.rules.specs.Ledger.{bare, bareScope, ledgerDeleted, LedgerObject, ledgerWithVersion, ledgerCreated, Ledger, ledgerPerform, ledgerScope, numberOf, ledgerRaised, tablesOf, ledgerWritten, withBytesWritten}
-use Rattle.rules.specs.Operations.{extentStart, keySet, namedObject, objectOf, perform, placement, placementStart}
+use Rattle.rules.specs.Operations.{extentStart, keySet, namedObject, nextVersion, objectOf, perform, placement, placementStart}
 use Rattle.rules.specs.Scope.{withScope, Scope, withKeys}
 use Rattle.rules.proofs.Bare.{bare-after, bare-at, bare-back, sees, the-ledger-object, the-object}
 use Rattle.rules.proofs.Placing.{clearOf}
@@ -212,7 +212,7 @@ module _ {M : ℕ} {m : List ℕ} {l : Ledger} (g : Consistent M m l) where
       p = x .cred .partition
 
       v : ℕ
-      v = partitionAt l p .last + 1
+      v = nextVersion (partitionAt l p)
 
       each : (h : LedgerObject)
           → (In p h × (numberOf h ≡ x .cred .object → ⊥))
@@ -259,7 +259,7 @@ module _ {M : ℕ} {m : List ℕ} {l : Ledger} (g : Consistent M m l) where
       new = record {
         object = record {
           number = number;
-          version = partitionAt l p .last + 1;
+          version = nextVersion (partitionAt l p);
           size = size;
           start = s;
         };

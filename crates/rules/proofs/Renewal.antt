@@ -30,7 +30,7 @@ use Rattle.rules.specs.Ledger.{
   ledgerWritten,
   withBytesWritten,
 }
-use Rattle.rules.specs.Operations.{placementStart}
+use Rattle.rules.specs.Operations.{nextVersion, placementStart}
 use Rattle.rules.specs.Scope.{withPartition}
 use Rattle.rules.specs.Story.{Giving, Renewing, versionIn}
 use Rattle.rules.proofs.Finds.{
@@ -56,7 +56,7 @@ unfolding versionIn ledgerRaised
 raised-version n w p = go (n is 0)
   where
     v : ℕ
-    v = p .last + 1
+    v = nextVersion p
 
     of : (o : Option LedgerObject) → Option·map versionHeld o ≡ some w
         → Option·map versionHeld (Option·map (ledgerWithVersion v) o) ≡ some v
@@ -87,7 +87,7 @@ created-version n size start p ne free =
   where
     new : LedgerObject
     new = record {
-      object = record { number = n; version = p .last + 1; size = size; start = start };
+      object = record { number = n; version = nextVersion p; size = size; start = start };
       bytes = replicate size 0;
     }
 
@@ -173,7 +173,7 @@ module _ (M : ℕ) (x : Fields) (l : Ledger) (p : Partition LedgerObject) where
   raised-other k n ne = go (k is 0) refl (n is 0) refl
     where
       v : ℕ
-      v = p .last + 1
+      v = nextVersion p
 
       go : (b : Bool) → (k is 0) ≡ b → (c : Bool) → (n is 0) ≡ c
           → cond c (some (cond b v (p .version))) (Option·map versionHeld
@@ -240,7 +240,7 @@ bytes-same M x l p Look n r w = refl
 bytes-same M x l p Raise n r w = go (x .cred .object is 0)
   where
     v : ℕ
-    v = p .last + 1
+    v = nextVersion p
 
     go : (b : Bool)
         → Option·getD (Option·map LedgerObject.bytes (find numberOf n (cond b (p .objects)

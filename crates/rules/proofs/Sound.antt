@@ -44,7 +44,7 @@ use Rattle.rules.specs.Drive.{
 use Rattle.rules.specs.declared.Operation.{Operation}
 use Rattle.rules.specs.declared.Operation.the-variants.{Create, Delete, Look, Raise, Read, SetKey, Write}
 use Rattle.rules.specs.Frame.{Fields}
-use Rattle.rules.specs.Operations.{created, deleted, perform, raised, placementStart, withVersion}
+use Rattle.rules.specs.Operations.{created, deleted, nextVersion, perform, raised, placementStart, withVersion}
 use Rattle.rules.specs.Scope.{withScope, Scope}
 use Rattle.rules.proofs.Placing.{clearOf, Placed}
 
@@ -122,12 +122,12 @@ pub unused-sound : (q F : ℕ) → soundPartition q (emptyPartition F) ≡ true
 unfolding every pairs
 unused-sound q F = partition-sound q (emptyPartition F) (record { count = omega arith; each = refl; pair = refl })
 
--- a later last version
-later : (q v : ℕ) (l : List Object) → every (soundObject q v) l ≡ true → every (soundObject q (v + 1)) l ≡ true
-later q v l h = every-imp (soundObject q v) (soundObject q (v + 1)) (λ a k. one a (object-is q v a k)) l h
+-- a last version that is no lower
+later : (q v w : ℕ) (l : List Object) → v ≤ w → every (soundObject q v) l ≡ true → every (soundObject q w) l ≡ true
+later q v w l le h = every-imp (soundObject q v) (soundObject q w) (λ a k. one a (object-is q v a k)) l h
   where
-    one : (a : Object) → SoundObject q v a → soundObject q (v + 1) a ≡ true
-    one a s = object-sound q (v + 1) a (record {
+    one : (a : Object) → SoundObject q v a → soundObject q w a ≡ true
+    one a s = object-sound q w a (record {
       number = s .number;
       size = s .size;
       inside = s .inside;
@@ -143,7 +143,7 @@ raised-sound q n p h = partition-sound q (raised n p) (go (n is 0))
     s = partition-is q p h
 
     v : ℕ
-    v = p .last + 1
+    v = nextVersion p
 
     f : Object → Object
     f a = cond (a .number is n) (withVersion v a) a
@@ -160,7 +160,7 @@ raised-sound q n p h = partition-sound q (raised n p) (go (n is 0))
 
     go : (b : Bool) → SoundPartition q (partitionWith (cond b v (p .version)) v
         (cond b (p .objects) (map f (p .objects))) p)
-    go true = record { count = s .count; each = later q (p .last) (p .objects) (s .each); pair = s .pair }
+    go true = record { count = s .count; each = later q (p .last) v (p .objects) (omega arith) (s .each); pair = s .pair }
     go false = record {
       count = rw length-map (s .count);
       each = every-map (soundObject q v) f (p .objects)
@@ -177,9 +177,10 @@ created-sound : (q number size start : ℕ) (p : Partition Object) → soundPart
 unfolding created
 created-sound q number size start p h hn hs free room pl = partition-sound q (created number size start p) (record {
   count = rw length-append (omega arith);
-  each = every-append (soundObject q (p .last + 1)) (p .objects) (new ∷ []) (later q (p .last) (p .objects) (s .each))
-      (every-one (soundObject q (p .last + 1)) new
-      (object-sound q (p .last + 1) new (record {
+  each = every-append (soundObject q v) (p .objects) (new ∷ [])
+      (later q (p .last) v (p .objects) (omega arith) (s .each))
+      (every-one (soundObject q v) new
+      (object-sound q v new (record {
         number = hn;
         size = hs;
         inside = pl .inside;
@@ -193,8 +194,11 @@ created-sound q number size start p h hn hs free room pl = partition-sound q (cr
     s : SoundPartition q p
     s = partition-is q p h
 
+    v : ℕ
+    v = nextVersion p
+
     new : Object
-    new = record { number = number; version = p .last + 1; size = size; start = start }
+    new = record { number = number; version = v; size = size; start = start }
 
 deleted-sound : (q n : ℕ) (p : Partition Object) → soundPartition q p ≡ true → soundPartition q (deleted n p) ≡ true
 unfolding deleted
