@@ -1,5 +1,5 @@
-/* The other sides of bench/gate's ratios. Reads the records of standard input as gate_bench does, block by block, with a medium
- * of the same size set to zero first, and does with each frame what the word says:
+/* The other sides of bench/gate's ratios. Reads the records of standard input that gate_bench reads, into a space that the longest
+ * fits in, with a medium of the same size set to zero first, and does with each frame what the word says:
  *
  *     read         nothing more
  *     ours N       the digests that the gate has to compute, by the crate `digest`, N times over
@@ -26,7 +26,12 @@ void digest_hmac3(const uint8_t *key, size_t key_length, const uint8_t *a, size_
 typedef void hmac_call(const uint8_t *key, const uint8_t *a, size_t a_length, const uint8_t *b, size_t b_length,
                        uint8_t *out);
 
-static uint8_t block[BLOCK + CREDENTIAL + REQUEST + DIGEST], reply[8 + MOST_DATA + DIGEST], *medium;
+enum { INPUT = HEAD + MOST_FRAME };
+
+/* The input from `taken` up to `there` is still to be served; behind INPUT is room for a short frame that is taken for a longer one. */
+static uint8_t input[INPUT + CREDENTIAL + REQUEST + DIGEST];
+static size_t taken, there;
+static uint8_t reply[8 + MOST_DATA + DIGEST], *medium;
 static uint8_t keys[5][4][DIGEST];      /* by slot and partition */
 static uint64_t calls, same, granted;
 static struct sievelast_drive drive;
@@ -105,16 +110,32 @@ static void serve(const uint8_t *frame, size_t n, uint64_t clock)
             copy(frame + CREDENTIAL, n);
 }
 
-static size_t read_block(void)
+/* Serves the records that are there whole. Returns whether what is left can be the start of one. */
+static int serve_whole(void)
 {
-    size_t done = 0;
-    while (done < BLOCK) {
-        ssize_t got = read(0, block + done, BLOCK - done);
-        if (got <= 0)
+    while (there - taken >= HEAD) {
+        const uint8_t *record = input + taken;
+        size_t size = (size_t)number(record + 10, 4);
+        if (number(record, 2) != 0x4c49 || size > MOST_FRAME)
+            return 0;
+        if (size > there - taken - HEAD)
             break;
-        done += (size_t)got;
+        serve(record + HEAD, size, number(record + 2, 8));
+        taken += HEAD + size;
     }
-    return done;
+    return 1;
+}
+
+/* Reads on behind the rest of a record, which is moved to the front. Returns whether more came. */
+static int read_on(void)
+{
+    size_t rest = there - taken;
+    if (taken && rest)
+        memmove(input, input + taken, rest);
+    taken = 0;
+    ssize_t got = read(0, input + rest, INPUT - rest);
+    there = rest + (got > 0 ? (size_t)got : 0);
+    return got > 0;
 }
 
 /* The drive that gate_bench formats. */
@@ -138,14 +159,8 @@ int main(int count, char **words)
     memset(keys[3], 1, sizeof keys[3]);
     if (is_lent)
         format();
-    for (size_t n = read_block(); n; n = read_block())
-        for (size_t at = 0; at + HEAD <= n && number(block + at, 2) == 0x4c49;) {
-            size_t size = (size_t)number(block + at + 10, 4);
-            if (size > n - at - HEAD)
-                break;
-            serve(block + at + HEAD, size, number(block + at + 2, 8));
-            at += HEAD + size;
-        }
+    while (read_on() && serve_whole())
+        ;
     if (is_lent)
         printf("%llu granted, %llu refused\n", (unsigned long long)granted, (unsigned long long)(calls - granted));
     else

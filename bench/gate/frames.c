@@ -10,15 +10,14 @@
  *             3 to 63
  *     steady  one object; the mark rises with each frame, each finds 63 entries in its memory and one more outlived
  * OBJECT: the size of the object that is read and written; the others have 512 bytes. Prints what gate_bench is to print: the
- * grants and the refusals. The refusals that were not asked for are records that fill up a block. */
+ * grants and the refusals. */
 #include "records.h"
 #include <openssl/evp.h>
 #include <openssl/hmac.h>
 
-enum { STAY = 63, STEP = 60, OBJECTS = 16, SMALL = 512, MOST_PAD = 65536, WINDOW = 5000 };
+enum { STAY = 63, STEP = 60, OBJECTS = 16, SMALL = 512, WINDOW = 5000 };
 
 static FILE *out;
-static size_t place;                    /* in the block */
 static uint64_t mark = 100000;
 static uint64_t granted, refused;
 static uint32_t counter;
@@ -32,40 +31,14 @@ static void hmac(const uint8_t *key, const uint8_t *message, size_t n, uint8_t *
         fail("HMAC");
 }
 
-/* ---- records */
-
-static void put_record(const uint8_t *f, size_t n)
+/* A record of the frame. */
+static void put(const uint8_t *f, size_t n, int is_granted)
 {
     uint8_t head[HEAD] = {0x4c, 0x49};
     put_number(head + 2, 8, mark);
     put_number(head + 10, 4, n);
     if (fwrite(head, 1, HEAD, out) != HEAD || fwrite(f, 1, n, out) != n)
         fail("write");
-    place = (place + HEAD + n) % BLOCK;
-}
-
-static void put_pad(size_t n)
-{
-    static const uint8_t zeros[MOST_PAD];
-    put_record(zeros, n - HEAD);
-    refused++;
-}
-
-/* Fills the block up, by refused frames that the program `gate` takes too. */
-static void end_block(void)
-{
-    while (BLOCK - place > MOST_PAD)
-        put_pad(MOST_PAD / 2);
-    put_pad(BLOCK - place);
-}
-
-/* A record never goes over a block's end, nor leaves less room than the head of one that fills it up. */
-static void put(const uint8_t *f, size_t n, int is_granted)
-{
-    size_t end = place + HEAD + n;
-    if (place && end != BLOCK && end + HEAD > BLOCK)
-        end_block();
-    put_record(f, n);
     *(is_granted ? &granted : &refused) += 1;
 }
 

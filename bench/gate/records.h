@@ -1,5 +1,5 @@
-/* What the bench programs share: the records of gate_bench's input, in blocks (crates/gate_bench/src/main.rt), and big-endian
- * numbers. */
+/* What the bench programs share: the records of gate_bench's input, one behind the other as those of `gate`, with frames of up to
+ * MOST_FRAME bytes; and big-endian numbers. */
 #ifndef RECORDS_H
 #define RECORDS_H
 #include <stdint.h>
@@ -8,8 +8,8 @@
 #include <string.h>
 
 enum {
-    BLOCK = 1052672,   /* bytes of input that are read at once; no record goes over a block's end */
     HEAD = 14,         /* of a record: mark, clock, frame length */
+    MOST_FRAME = 1052658,
     CREDENTIAL = 36,
     REQUEST = 28,
     DIGEST = 32,

@@ -1,7 +1,3 @@
-pub mod Answered
-pub mod Printed
-pub mod Log
 pub mod Promises
+pub mod Lines
 pub mod Rounds
-pub mod RoundLaws
-pub mod History

@@ -1,204 +1,97 @@
--- What the program's functions promise. input: bytes that have arrived and are not answered.
-use mathlib.Core.Path.{_≡_, refl, sym, ap, subst, _∙_}
-use mathlib.Core.Bool.{Bool, true, false, cond}
-use mathlib.Core.List.{List, [], _++_, append-assoc}
-use Prim.Native.Nat.{ℕ, _+_, _-_, _^_, _≤_, _<_}
-use native.Mathlib.Omega.{arith}
-use lib.ListN.{length, take, drop, length-drop}
-use lib.Seq.{take-all, take-at, take-add, take-append-le, drop-at, drop-append-le, drop-drop, length-take-le}
-use Rattle.lemmas.specs.Lists.{part}
-use Rattle.rules.specs.Program.{recordHead, frameLength, callIn, broken, mostFrame}
-use Rattle.rules.specs.Demands.{State}
-use Rattle.record.specs.Arrival.{malformed}
-use Rattle.record.specs.ArrivalLaws.{facts-of-short, facts-when-broken}
-use Rattle.gate.specs.declared.Batch.{Batch}
-use Rattle.gate.specs.declared.InputRecord.{InputRecord}
-use Rattle.gate.specs.declared.Pending.{Pending}
-use Rattle.gate.specs.declared.Progress.{Progress}
-use Rattle.gate.specs.declared.Refilled.{Refilled}
+-- What the program's functions promise, round by round, and what all rounds do from a freshly formatted drive. The bytes that
+-- the reads brought and those that were handed to write are known by two logs (`Logged`), as far as these have room.
+-- t, r: the state before and after. m: the medium. buf: the input buffer. inlog, outlog: the logs of input and output.
+use mathlib.Core.Path.{_≡_}
+use mathlib.Core.Logic.{_⊎_}
+use mathlib.Core.Bool.{Bool, true, false}
+use mathlib.Core.List.{List, [], _∷_, _++_}
+use Prim.Native.Nat.{ℕ, _+_, _*_, _≤_, _<_}
+use lib.Dec.{eqb}
+use lib.ListN.{length, drop}
+use Rattle.rules.specs.Program.{answered, cut, formatted, linesFrom, mostFrame, printed, prints, program, replySize}
 use Rattle.drive.specs.Chain.{stateOf}
-use Rattle.gate.specs.Log.{Logged, Added, added-none, logged-more}
-use Rattle.gate.specs.Printed.{Printed, printed-none, printed-then}
+use Rattle.logged.specs.Log.{Logged}
+use Rattle.reader.specs.declared.Intake.{Intake}
+use Rattle.reader.specs.declared.Outcome.{Outcome}
+use Rattle.reader.specs.declared.Outcome.the-variants.{Running, Ended, Malformed, Unread}
+use Rattle.reader.specs.Promises.{goesOn, pendingIn, roomFor}
+use Rattle.reader.specs.Session.{Session, WholeInput}
+use Rattle.gate.specs.declared.LoopState.{LoopState}
 
--- ---- sizes, in bytes: the input buffer, and room for the longest line
-abbrev pub inputSize : ℕ
-inputSize = 131_086
-
+-- room for the longest line, in bytes
 abbrev pub lineSize : ℕ
 lineSize = 64
 
--- no more bytes are read
-abbrev pub inputLimit : ℕ
-inputLimit = 2 ^ 63
+-- the lines of calls after the first n, by their rows and reply lengths
+unfoldable pub linesOf : ℕ → List ℕ → List ℕ → List ℕ
+linesOf n [] lengths = []
+linesOf n (row ∷ rows) [] = []
+linesOf n (row ∷ rows) (size ∷ lengths) = printed (n + 1) row size ++ linesOf (n + 1) rows lengths
 
--- the bytes of a buffer from one place up to another
-abbrev pub between : List ℕ → ℕ → ℕ → List ℕ
-between s from to = take (to - from) (drop from s)
+-- the reply space is document 01's; there is room for an answer, and for the lines of all that can be taken at a time
+abbrev pub BuffersFit : List ℕ → List ℕ → List ℕ → List ℕ → List ℕ → Type 0
+BuffersFit reply rows lengths partitions out =
+    (length reply ≡ replySize) × (0 < roomFor rows lengths partitions) × (length rows * lineSize ≤ length out)
 
--- ---- the input record at the start of input: its clock, and its size with the head; both 0 where it is not whole
-pub record WholeRecordMet (input : List ℕ) (r : InputRecord) : Type 0 where
-  pub reading : r .clock ≡ cond (broken input) 0 (callIn input .clock)
-  pub counted : r .size ≡ cond (broken input) 0 (recordHead + frameLength input)
-  -- it lies within input
-  pub within : r .size ≤ length input
+-- ---- between two rounds: what has come and what has gone out since the format
+pub record Progress (t : LoopState) (m buf inlog outlog : List ℕ) : Type 0 where
+  pub session : Session mostFrame replySize formatted (t .intake) (t .drive) m buf inlog
+  pub counted : t .calls ≡ length (session .calls)
+  pub went : Logged outlog (t .logged) (linesFrom 0 (answered formatted (session .calls)))
 
--- ---- from state s after `calls` calls the first bytes of input are answered, with this medium after it; the start of
--- out is the text that the program prints of them, whatever comes later
-pub record AnswerRecordsMet (s : State) (calls : ℕ) (input : List ℕ) (r : Batch) (medium out : List ℕ) : Type 0 where
-  pub text : Printed s calls input (stateOf (r .drive) medium) (r .calls) (r .taken) (take (r .put) out)
-  pub more : calls ≤ r .calls
-  pub counted : r .calls ≤ calls + r .taken
-  pub within : r .taken ≤ length input
-  pub fits : r .put ≤ length out
-  -- where nothing is taken there is no whole record
-  pub stuck : r .taken ≡ 0 → broken input ≡ true
+-- and where the input stops, what is known of all of it
+pub record Reached (r : LoopState) (m buf inlog outlog : List ℕ) : Type 0 where
+  pub progress : Progress r m buf inlog outlog
+  pub whole : WholeInput mostFrame replySize (r .intake .outcome) (progress .session .input) (progress .session .calls)
+      (pendingIn buf (r .intake))
+  pub order : r .intake .from ≤ r .intake .to
+  pub within : r .intake .to ≤ length buf
 
--- ---- some batches over input: from state s after `calls` calls its first `taken` bytes lead to state s′ after n calls;
--- their lines are the text that the program prints of them, and are added to the log of the output
-pub record BatchesMet (s : State) (calls : ℕ) (input log : List ℕ) (at : ℕ) (s′ : State) (n taken : ℕ) (log′ : List ℕ)
-    (at′ : ℕ) : Type 0 where
-  pub text : List ℕ
-  pub printed : Printed s calls input s′ n taken text
-  pub went : Added log at text log′ at′
-  pub more : calls ≤ n
-  pub counted : n ≤ calls + taken
+-- ---- one round: while the input goes on, bytes have come or a call was made
+pub record RoundMet (t r : LoopState) (m buf inlog outlog : List ℕ) : Type 0 where
+  pub reached : Reached r m buf inlog outlog
+  pub grows : r .intake .outcome ≡ Running → t .intake .received + t .calls < r .intake .received + r .calls
+
+-- all rounds: the input has stopped, or the output could not be written
+pub record ServeMet (r : LoopState) (m buf inlog outlog : List ℕ) : Type 0 where
+  pub reached : Reached r m buf inlog outlog
+  pub stopped : r .written ≡ true → goesOn (r .intake .outcome) ≡ false
+
+-- ---- the program
+-- whether the input has ended behind a whole record, so that nothing is pending
+abbrev pub endedAs : Outcome → ℕ → ℕ → Bool
+endedAs Running from to = false
+endedAs Ended from to = eqb from to
+endedAs Malformed from to = false
+endedAs Unread from to = false
+
+abbrev pub hasEnded : Intake → Bool
+hasEnded t = endedAs (t .outcome) (t .from) (t .to)
+
+-- the last line, "`end` and the count of calls", or `cut`. n: the calls
+abbrev pub LastLine : Outcome → ℕ → List ℕ → List ℕ → List ℕ → Type 0
+LastLine Running n input lines last = ⊥
+-- the reads brought the whole input: what was put out is what document 01's program prints of it
+LastLine Ended n input lines last = program input ≡ lines ++ last
+-- and of an input whose start they brought, whatever bytes q were never read
+LastLine Malformed n input lines last = (q : List ℕ) → program (input ++ q) ≡ lines ++ last
+-- more may have been to come
+LastLine Unread n input lines last = last ≡ cut n
+
+pub record RunMet (r : LoopState) (m inlog outlog : List ℕ) : Type 0 where
+  -- the bytes that the reads brought, in order
+  pub input : List ℕ
+  pub came : Logged inlog (r .intake .logged) input
+  -- the bytes that were handed to write, in order: the lines of the calls, and the last line
+  pub lines : List ℕ
+  pub last : List ℕ
+  pub went : Logged outlog (r .logged) (lines ++ last)
+  -- the first `taken` bytes of the input are answered. Whatever comes later, the lines, followed by what is printed of the
+  -- rest from the state reached, are what document 01's program prints of the whole input
+  pub taken : ℕ
   pub within : taken ≤ length input
-
--- all of them: where the output could be written, no whole record is left
-pub record DrainMet (s : State) (calls : ℕ) (input log : List ℕ) (at : ℕ) (r : Progress) (medium log′ : List ℕ)
-    : Type 0 where
-  pub answers : BatchesMet s calls input log at (stateOf (r .drive) medium) (r .calls) (r .taken) log′ (r .logged)
-  pub all : r .written ≡ true → broken (drop (r .taken) input) ≡ true
-
--- ---- the pending bytes lie within the input buffer, and are fewer than the longest record has
-abbrev pub PendingFits : Pending → Type 0
-PendingFits p = (p .from ≤ p .to) × (p .to ≤ inputSize) × (p .to < p .from + (recordHead + mostFrame))
-
--- they have moved from p to r, and there is room behind them
-pub record MakeRoomMet (buf : List ℕ) (p : Pending) (buf′ : List ℕ) (r : Pending) : Type 0 where
-  pub order : r .from ≤ r .to
-  pub count : r .to + p .from ≡ p .to + r .from
-  pub room : r .to < length buf
-  pub same : part buf′ (r .from) (p .to - p .from) ≡ part buf (p .from) (p .to - p .from)
-
--- a read has put r .count bytes behind them, which are added to the log of the input
-pub record RefillMet (buf : List ℕ) (p : Pending) (log : List ℕ) (at : ℕ) (buf′ : List ℕ) (r : Refilled) (log′ : List ℕ)
-    : Type 0 where
-  pub order : r .from ≤ r .to
-  pub count : r .to + p .from ≡ p .to + r .from + r .count
-  pub within : r .to ≤ inputSize
-  pub got : List ℕ
-  pub long : length got ≡ r .count
-  pub arrived : between buf′ (r .from) (r .to) ≡ between buf (p .from) (p .to) ++ got
-  pub came : Added log at got log′ (r .logged)
-
--- ---- laws: the size shows whether there is a whole record
-pub none-whole : (s : List ℕ) → broken s ≡ true → WholeRecordMet s (record { clock = 0; size = 0 })
-none-whole s b = record { reading = rw b refl; counted = rw b refl; within = omega arith }
-
-pub size-zero : (s : List ℕ) (r : InputRecord) → WholeRecordMet s r → r .size ≡ 0 → broken s ≡ true
-size-zero s r m z = go (broken s) refl (m .counted)
-  where
-    go : (b : Bool) → broken s ≡ b → r .size ≡ cond b 0 (recordHead + frameLength s) → broken s ≡ true
-    go true e k = e
-    go false e k = absurd (omega (arith, z, k))
-
-pub size-some : (s : List ℕ) (r : InputRecord) → WholeRecordMet s r → (r .size ≡ 0 → ⊥)
-    → (broken s ≡ false) × (recordHead ≤ r .size)
-size-some s r m z = go (broken s) refl (m .counted)
-  where
-    go : (b : Bool) → broken s ≡ b → r .size ≡ cond b 0 (recordHead + frameLength s)
-        → (broken s ≡ false) × (recordHead ≤ r .size)
-    go true e k = absurd (z k)
-    go false e k = (e, omega (arith, k))
-
--- ---- laws: the bytes after those taken
-abbrev pub rest : List ℕ → ℕ → List ℕ
-rest input taken = take (length input - taken) (drop taken input)
-
-pub rest-all : (input : List ℕ) (taken : ℕ) → rest input taken ≡ drop taken input
-rest-all input taken = take-all (length input - taken) (drop taken input) (omega (arith, length-drop taken input))
-
-pub length-rest : (input : List ℕ) (taken : ℕ) → length (rest input taken) ≡ length input - taken
-length-rest input taken = ap length (rest-all input taken) ∙ length-drop taken input
-
--- a part of a buffer without its first bytes
-pub part-rest : (s : List ℕ) (from to taken : ℕ) → from + taken ≤ to → to ≤ length s
-    → drop taken (take (to - from) (drop from s)) ≡ take (to - (from + taken)) (drop (from + taken) s)
-part-rest s from to taken h l =
-    let d : List ℕ = drop from s in
-    let k : ℕ = to - (from + taken) in
-    let e : to - from ≡ taken + k = omega (arith, h) in
-    let long : taken ≤ length d = omega (arith, h, l, length-drop from s) in
-    ap (λ (n : ℕ). drop taken (take n d)) e
-    ∙ ap (λ (x : List ℕ). drop taken x) (take-add taken k d)
-    ∙ drop-at (take taken d) (take k (drop taken d)) taken (length-take-le taken d long)
-    ∙ ap (λ (x : List ℕ). take k x) (drop-drop taken from s)
-
--- input that is neither whole nor malformed is shorter than the longest record
-pub left-short : (s : List ℕ) (from to taken : ℕ) → from + taken ≤ to → to ≤ length s
-    → broken (drop taken (take (to - from) (drop from s))) ≡ true
-    → malformed (take (to - (from + taken)) (drop (from + taken) s)) ≡ false
-    → to < from + taken + (recordHead + mostFrame)
-left-short s from to taken h l b w =
-    let r : List ℕ = take (to - (from + taken)) (drop (from + taken) s) in
-    let b′ : broken r ≡ true = subst (λ (x : List ℕ). broken x ≡ true) (part-rest s from to taken h l) b in
-    let size : length r ≡ to - (from + taken) =
-    length-take-le (to - (from + taken)) (drop (from + taken) s) (omega (arith, h, l, length-drop (from + taken) s)) in
-    omega (arith, h, size, facts-of-short r (sym (facts-when-broken r false b′ w)) .2)
-
--- what stands in a buffer after a read behind its first `end` bytes: those from place `from` on, and what the read brought
-pub between-read : (s read tail : List ℕ) (from end count : ℕ) → from ≤ end → end ≤ length s → count ≤ length read
-    → between (take end s ++ (read ++ tail)) from (end + count) ≡ between s from end ++ take count read
-between-read s read tail from end count h l c =
-    let kept : List ℕ = between s from end in
-    let long : length kept ≡ end - from = length-take-le (end - from) (drop from s) (omega (arith, h, l, length-drop from s)) in
-    let size : end + count - from ≡ (end - from) + count = omega (arith, h) in
-    let e : end ≡ from + (end - from) = omega (arith, h) in
-    let split : take end s ≡ take from s ++ kept = ap (λ (n : ℕ). take n s) e ∙ take-add from (end - from) s in
-    let front : drop from (take end s) ≡ kept =
-    ap (λ (x : List ℕ). drop from x) split
-    ∙ drop-at (take from s) kept from (length-take-le from s (omega (arith, h, l))) in
-    let long′ : from ≤ length (take end s) = omega (arith, h, length-take-le end s l) in
-    ap (λ (n : ℕ). take n (drop from (take end s ++ (read ++ tail)))) size
-    ∙ ap (λ (x : List ℕ). take ((end - from) + count) x)
-    (drop-append-le from (take end s) (read ++ tail) long′ ∙ ap (λ (x : List ℕ). x ++ (read ++ tail)) front)
-    ∙ take-add (end - from) count (kept ++ (read ++ tail))
-    ∙ ap (λ (x : List ℕ). x ++ take count (drop (end - from) (kept ++ (read ++ tail))))
-    (take-at kept (read ++ tail) (end - from) long)
-    ∙ ap (λ (x : List ℕ). kept ++ take count x) (drop-at kept (read ++ tail) (end - from) long)
-    ∙ ap (λ (x : List ℕ). kept ++ x) (take-append-le count read tail c)
-
--- ---- laws: one batch more
-pub batches-none : (s : State) (calls : ℕ) (input log : List ℕ) (at : ℕ) → at ≤ length log
-    → BatchesMet s calls input log at s calls 0 log at
-batches-none s calls input log at h = record {
-  text = [];
-  printed = printed-none s calls input;
-  went = added-none log at h;
-  more = omega arith;
-  counted = omega arith;
-  within = omega arith;
-}
-
-pub batches-more : (s : State) (calls : ℕ) (input log : List ℕ) (at : ℕ) (s′ : State) (n taken : ℕ) (log′ : List ℕ)
-    (at′ : ℕ) (b : Batch) (medium out log″ : List ℕ) (at″ : ℕ)
-    → BatchesMet s calls input log at s′ n taken log′ at′
-    → AnswerRecordsMet s′ n (rest input taken) b medium out
-    → Added log′ at′ (take (b .put) out) log″ at″
-    → length log″ ≡ length log′
-    → BatchesMet s calls input log at (stateOf (b .drive) medium) (b .calls) (taken + b .taken) log″ at″
-batches-more s calls input log at s′ n taken log′ at′ b medium out log″ at″ h m w e =
-    let new : List ℕ = take (b .put) out in
-    record {
-      text = h .text ++ new;
-      printed = printed-then s calls input s′ n taken (h .text) (stateOf (b .drive) medium) (b .calls) (b .taken) new
-          (h .printed) (h .more)
-          (subst (λ (x : List ℕ). Printed s′ n x (stateOf (b .drive) medium) (b .calls) (b .taken) new)
-          (rest-all input taken) (m .text)) (m .more);
-      went = subst (λ (x : List ℕ). Logged log″ at″ x) (append-assoc (take at log) (h .text) new)
-          (logged-more log′ at′ (take at log ++ h .text) new log″ at″ e (h .went) w);
-      more = omega (arith, h .more, m .more);
-      counted = omega (arith, h .counted, m .counted);
-      within = omega (arith, h .within, m .within, length-rest input taken);
-    }
+  pub reached : (q : List ℕ)
+      → program (input ++ q) ≡ lines ++ prints (stateOf (r .drive) m) (r .calls) (drop taken input ++ q)
+  pub ending : r .written ≡ true → LastLine (r .intake .outcome) (r .calls) input lines last
+  -- the output can't be written: nothing more is put out
+  pub unwritten : r .written ≡ false → last ≡ []

@@ -1,3 +1,4 @@
 -- What the crate's contracts say beyond the general definitions.
 pub mod Numbers
 pub mod Fields
+pub mod Behind

@@ -1,3 +1,3 @@
 pub mod Arrival
 pub mod ArrivalLaws
-pub mod Printing
+pub mod Parsing

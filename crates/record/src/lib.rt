@@ -1,4 +1,5 @@
-// One input record of the program (document 01: mark 4C 49, clock, frame length, frame).
+// One input record of a program (document 01: mark 4C 49, clock, frame length, frame). most: the longest frame that the
+// program takes, in bytes.
 ghost use mathlib.Core.Path.{_≡_};
 ghost use Rattle.record.specs.Arrival.{malformed, factsOf, recordFacts};
 
@@ -11,8 +12,6 @@ const LENGTH_START: usize = CLOCK_START + 8;
 
 pub const HEAD_SIZE: usize = LENGTH_START + 4;
 
-const MOST_FRAME: u64 = 65536;
-
 // What is known of an input record from those of its bytes that have arrived.
 pub enum Arrived {
     // All of it: the frame is the size bytes after the head. Bytes of later input records may follow.
@@ -24,18 +23,18 @@ pub enum Arrived {
 }
 
 // Whether this is no input record, by the bytes that are there already.
-pub fn is_malformed(input: &[u8]) -> bool
-    ensures { λ r. ⌜ r ≡ malformed (now (input .entry)) ⌝ }
+pub fn is_malformed(input: &[u8], most: u64) -> bool
+    ensures { λ r. ⌜ r ≡ malformed most (now (input .entry)) ⌝ }
 {
     ((input.len() >= CLOCK_START) & (octets::number(input, 0, CLOCK_START) != MAGIC))
-        | ((input.len() >= HEAD_SIZE) & (octets::number(input, LENGTH_START, 4) > MOST_FRAME))
+        | ((input.len() >= HEAD_SIZE) & (octets::number(input, LENGTH_START, 4) > most))
 }
 
 // The input record that starts where input does.
-pub fn arrival(input: &[u8]) -> Arrived
-    ensures { λ r. ⌜ factsOf r ≡ recordFacts (now (input .entry)) ⌝ }
+pub fn arrival(input: &[u8], most: u64) -> Arrived
+    ensures { λ r. ⌜ factsOf r ≡ recordFacts most (now (input .entry)) ⌝ }
 {
-    if is_malformed(input) {
+    if is_malformed(input, most) {
         return Arrived::Malformed;
     }
     if input.len() < HEAD_SIZE {

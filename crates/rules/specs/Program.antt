@@ -1,5 +1,6 @@
--- Document 01, the program `gate`: its input records, and what it prints.
-use mathlib.Core.Bool.{Bool, true, false, _||_}
+-- Document 01, the program `gate`: its input records, the calls that they are, and what it prints.
+-- input: bytes of its standard input. most: the longest frame that a program takes, in bytes. space: its reply space's size.
+use mathlib.Core.Bool.{Bool, true, false, _||_, cond}
 use mathlib.Core.List.{List, [], _∷_, _++_}
 use Prim.Native.Nat.{ℕ, zero, suc, _+_, _/_, _%_}
 use lib.ListN.{length, drop, replicate}
@@ -33,29 +34,72 @@ recordHead = lengthStart + 4
 abbrev pub frameLength : List ℕ → ℕ
 frameLength input = numberAt input lengthStart 4
 
-abbrev pub callIn : List ℕ → Call
-callIn input = record {
-  frame = part input recordHead (frameLength input);
-  clock = numberAt input clockStart 8;
-  space = replicate 65_536 0;
-}
+abbrev pub clockIn : List ℕ → ℕ
+clockIn input = numberAt input clockStart 8
+
+abbrev pub frameIn : List ℕ → List ℕ
+frameIn input = part input recordHead (frameLength input)
+
+-- the call that it is
+abbrev pub callIn : ℕ → List ℕ → Call
+callIn space input = record { frame = frameIn input; clock = clockIn input; space = replicate space 0 }
+
+-- the bytes behind it
+abbrev pub afterRecord : List ℕ → List ℕ
+afterRecord input = drop (recordHead + frameLength input) input
 
 -- "a record with another mark or without all its bytes, or a length over 65,536"
-abbrev pub mostFrame : ℕ
-mostFrame = 65_536
-
 abbrev pub otherMark : List ℕ → Bool
 otherMark input = numberAt input 0 2 isnt recordMagic
 
-abbrev pub overlong : List ℕ → Bool
-overlong input = frameLength input over mostFrame
+abbrev pub overlong : ℕ → List ℕ → Bool
+overlong most input = frameLength input over most
 
-unfoldable pub broken : List ℕ → Bool
-broken input =
+unfoldable pub broken : ℕ → List ℕ → Bool
+broken most input =
     length input under recordHead
     || otherMark input
-    || overlong input
+    || overlong most input
     || length input under recordHead + frameLength input
+
+-- ---- the calls of an input: the records at its start that are not broken, in order, at most k of them
+unfoldable pub callsOf : ℕ → ℕ → ℕ → List ℕ → List Call
+callsOf most space zero input = []
+callsOf most space (suc k) input =
+    elim (broken most input) [
+      | true ↦ []
+      | false ↦ callIn space input ∷ callsOf most space k (afterRecord input)
+    ]
+
+-- and the bytes that are left behind them
+unfoldable pub leftOf : ℕ → ℕ → List ℕ → List ℕ
+leftOf most zero input = input
+leftOf most (suc k) input = elim (broken most input) [ true ↦ input | false ↦ leftOf most k (afterRecord input) ]
+
+-- all of them: there are no more than bytes
+unfoldable pub callsIn : ℕ → ℕ → List ℕ → List Call
+callsIn most space input = callsOf most space (length input) input
+
+unfoldable pub leftIn : ℕ → List ℕ → List ℕ
+leftIn most input = leftOf most (length input) input
+
+-- ---- a list of calls and their answers, as far as a program looks at them
+pub record AnsweredCall : Type 0 where
+  pub frame : List ℕ
+  pub row : ℕ
+  pub length : ℕ
+
+unfoldable pub answered : State → List Call → List AnsweredCall
+answered s [] = []
+answered s (c ∷ cs) =
+    record { frame = c .frame; row = answer s c .row; length = answer s c .length } ∷ answered (step s c) cs
+
+-- ---- document 01's program: the longest frame, and the reply space of each call
+abbrev pub mostFrame : ℕ
+mostFrame = 65_536
+
+abbrev pub replySize : ℕ
+replySize = 65_536
 
 -- ---- what is printed: numbers in decimal, of at most twenty digits
 unfoldable pub digits : ℕ → ℕ → List ℕ
@@ -76,20 +120,20 @@ ended n = 101 ∷ 110 ∷ 100 ∷ 32 ∷ (decimal n ++ (10 ∷ []))
 abbrev pub cut : ℕ → List ℕ
 cut n = 99 ∷ 117 ∷ 116 ∷ 32 ∷ (decimal n ++ (10 ∷ []))
 
--- what is printed after n calls, of the input that is left; no more than k input records
-unfoldable pub prints : ℕ → State → ℕ → List ℕ → List ℕ
-prints zero s n input = []
-prints (suc k) s n input =
-    elim (length input is 0) [
-      | true ↦ ended n
-      | false ↦ elim (broken input) [
-        | true ↦ cut n
-        | false ↦
-            let c = callIn input in
-            printed (n + 1) (answer s c .row) (answer s c .length)
-            ++ prints k (step s c) (n + 1) (drop (recordHead + frameLength input) input)
-      ]
-    ]
+-- the lines of the calls after the first n
+unfoldable pub linesFrom : ℕ → List AnsweredCall → List ℕ
+linesFrom n [] = []
+linesFrom n (a ∷ later) = printed (n + 1) (a .row) (a .length) ++ linesFrom (n + 1) later
+
+-- the last line, after n calls
+abbrev pub lastLine : ℕ → List ℕ → List ℕ
+lastLine n left = cond (length left is 0) (ended n) (cut n)
+
+-- what is printed of an input that finds the drive and the medium s after n calls
+unfoldable pub prints : State → ℕ → List ℕ → List ℕ
+prints s n input =
+    let cs = callsIn mostFrame replySize input in
+    linesFrom n (answered s cs) ++ lastLine (n + length cs) (leftIn mostFrame input)
 
 unfoldable pub program : List ℕ → List ℕ
-program input = prints (length input + 1) formatted 0 input
+program input = prints formatted 0 input

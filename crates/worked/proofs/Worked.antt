@@ -17,7 +17,7 @@ use Rattle.rules.specs.Drive.{Drive, format, Key, Keys}
 use Rattle.rules.specs.Frame.{credentialMagic, requestBytes, requestMagic}
 use Rattle.rules.specs.Gate.{Call, gate, refused}
 use Rattle.rules.specs.Operations.{keyIn}
-use Rattle.rules.specs.Program.{broken, digits, prints, program}
+use Rattle.rules.specs.Program.{answered, broken, callsIn, callsOf, digits, leftIn, leftOf, linesFrom, prints, program}
 use Rattle.worked.proofs.Signed.{
   AllKnown9,
   altered,
@@ -346,9 +346,12 @@ unsound : gate large (replicate 256 0) (empty 7) ≡ refused 1 large (replicate 
 unfolding large empty firstFrames
 unsound = refl
 
--- ---- the document's example of the program: an empty frame and then 96 zero bytes, clocks 0, print `1 2 0`, `2 3 0`,
+-- ---- document 01's example of the program: an empty frame and then 96 zero bytes, clocks 0, print `1 2 0`, `2 3 0`,
 -- `end 2`
-example : program (0x4c ∷ 0x49 ∷ (replicate 12 0 ++ (0x4c ∷ 0x49 ∷ (replicate 11 0 ++ (96 ∷ replicate 96 0)))))
+abbrev exampleInput : List ℕ
+exampleInput = 0x4c ∷ 0x49 ∷ (replicate 12 0 ++ (0x4c ∷ 0x49 ∷ (replicate 11 0 ++ (96 ∷ replicate 96 0))))
+
+example : program exampleInput
     ≡ 49 ∷ 32 ∷ 50 ∷ 32 ∷ 48 ∷ 10 ∷ 50 ∷ 32 ∷ 51 ∷ 32 ∷ 48 ∷ 10 ∷ 101 ∷ 110 ∷ 100 ∷ 32 ∷ 50 ∷ 10 ∷ []
-unfolding program prints broken digits opened
+unfolding program prints callsIn callsOf leftIn leftOf answered linesFrom broken digits opened
 example = refl

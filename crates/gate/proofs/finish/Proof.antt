@@ -10,8 +10,9 @@ use borrow.Author.Needs.{needs}
 use Rattle.rules.specs.Program.{ended, cut}
 use Rattle.lines.specs.Text.{placeAfter}
 use Rattle.lines.specs.Decimal.{place-within}
-use Rattle.gate.specs.Log.{Added}
-use Rattle.gate.specs.Printed.{last-short, text-put}
+use Rattle.logged.specs.Log.{Added}
+use Rattle.lines.specs.Placed.{text-put}
+use Rattle.gate.specs.Lines.{last-short}
 use Rattle.gate.proofs.finish.Statement.{statement}
 use Rattle.gate.proofs.finish.Tie as tie
 
@@ -36,7 +37,7 @@ returns c =
     let m = made w in
     let a = start m .args in
     let t : List ℕ = cond (a .ended) (ended (a .calls)) (cut (a .calls)) in
-    let fits : 0 + length t ≤ length (a .out .now) = omega (arith, start m .pre .0, last-short (a .ended) (a .calls)) in
+    let fits : 0 + length t ≤ length (a .out .now) = omega (arith, start m .pre, last-short (a .ended) (a .calls)) in
     subst (λ (x : List ℕ). Added (a .outlog .now) (a .at) x (w .write .last .1 .0) (w .write .result .logged))
     (text-put (a .out .now) 0 t (m .last-line .result) (m .last-line .last .0) fits (m .last-line .ensures))
     (w .write .ensures)
