@@ -33,6 +33,10 @@ def main():
         if name.startswith("program "):
             for how, f in [("processor time", found[1]), ("the clock", found[2])]:
                 bar(f"program through a pipe, {name[8:]}: of the library's calls a second, by {how}", f[0], least=0.8)
+    for name, found in kept.items():
+        if name.startswith("report "):
+            for how, f in [("processor time", found[1]), ("the clock", found[2])]:
+                bar(f"report through a pipe, {name[7:]}: of gate's records a second, by {how}", f[0], least=0.95)
     tables.table("Bars", ["", "bar", "found", "met"], rows)
 
 

@@ -10,6 +10,7 @@ FOLDER = os.environ.get("BENCH_FOLDER", "target/bench")
 INPUT = os.path.join(FOLDER, "input")
 GATE_BENCH = ["target/bin/gate_bench"]
 GATE = ["target/bin/gate"]
+REPORT = ["target/bin/report"]
 FRAMES = "target/bench/frames"
 
 

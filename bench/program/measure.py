@@ -1,7 +1,9 @@
 #!/usr/bin/env python3
 """The program `gate`, fed through a pipe by a process on another core, against gate_bench on the same records in a file, and
-against a C program (bench/gate/feed.c) that reads them from such a pipe too and computes the same digests by libcrypto."""
+against a C program (bench/gate/feed.c) that reads them from such a pipe too and computes the same digests by libcrypto. And the
+program `report` from such a pipe against `gate`."""
 
+import collections
 import os
 import subprocess
 import sys
@@ -49,26 +51,59 @@ def from_file(words):
     return used, time.perf_counter() - start
 
 
+def check_report():
+    """On this input report counts as many calls of each row as gate prints lines of."""
+    *lines, last = text_of(GATE, INPUT).splitlines()
+    *counts, calls = text_of(REPORT, INPUT).splitlines()
+    rows = collections.Counter()
+    for line in counts:
+        _, row, count = line.split()
+        rows[row] += int(count)
+    if rows != collections.Counter(line.split()[1] for line in lines) or calls.split()[1] != last.split()[1]:
+        sys.exit("report counts other calls than gate")
+
+
+def ratios(over, under):
+    """By processor time and by the clock: the speed of the second divided by that of the first, turn by turn."""
+    return [tables.quartiles([o[i] / u[i] for o, u in zip(over, under)]) for i in [0, 1]]
+
+
+def speeds(calls, side):
+    """Records a second, by the clock."""
+    return tables.quartiles([calls / clock for _, clock in side])
+
+
 def cells(name, case, frames):
+    """Of a case: the cells for gate, and those for report."""
     calls = make(INPUT, *case, frames, OBJECT)
-    sides = {"gate": [], "library": [], "libcrypto": []}
+    check_report()
+    sides = {"gate": [], "report": [], "library": [], "libcrypto": []}
     for _ in range(TURNS):
         sides["gate"].append(piped(GATE))
+        sides["report"].append(piped(REPORT))
         sides["library"].append(from_file(GATE_BENCH))
         sides["libcrypto"].append(piped(feed("libcrypto")))
-    found = [tables.quartiles([calls / clock for _, clock in sides["gate"]])]
+    gate = [speeds(calls, sides["gate"])]
     for side in ["library", "libcrypto"]:
-        for i in [0, 1]:
-            found.append(tables.quartiles([t[i] / g[i] for t, g in zip(sides[side], sides["gate"])]))
-    tables.keep(f"program {name}", found)
-    return [tables.shown(*f) for f in found]
+        gate += ratios(sides[side], sides["gate"])
+    report = [speeds(calls, sides["report"])] + ratios(sides["gate"], sides["report"])
+    tables.keep(f"program {name}", gate)
+    tables.keep(f"report {name}", report)
+    return [[tables.shown(*f) for f in found] for found in (gate, report)]
 
 
 def main():
-    rows = [[name] + cells(name, case, frames) for name, case, frames in CASES]
+    of_gate, of_report = [], []
+    for name, case, frames in CASES:
+        gate, report = cells(name, case, frames)
+        of_gate.append([name] + gate)
+        of_report.append([name] + report)
     tables.table("The program through a pipe: records a second, and its speed divided by the other's", [
         "", "records a second", "library, by processor time", "by the clock", "libcrypto, by processor time", "by the clock"
-    ], rows)
+    ], of_gate)
+    tables.table("The program `report` through a pipe: records a second, and its speed divided by that of `gate`", [
+        "", "records a second", "by processor time", "by the clock"
+    ], of_report)
     remove(INPUT)
 
 

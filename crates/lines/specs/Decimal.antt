@@ -6,11 +6,12 @@ use Prim.Native.Nat.{ℕ, zero, suc, _+_, _*_, _/_, _%_, _^_, _≤_, _<_}
 use native.Mathlib.Nat.{pow-suc}
 use native.Mathlib.Decide.{decLt}
 use native.Mathlib.Omega.{arith}
-use lib.Dec.{leb}
+use lib.Dec.{leb, eqb}
 use lib.ListN.{length, take, drop, set, length-append}
 use lib.Seq.{set-split, drop-at, length-take-le}
 use borrow.Author.Tests.{lt-ltb, le-ltb, leb-true}
 use Rattle.rules.specs.Program.{digits, decimal, printed}
+use Rattle.rules.specs.Report.{Count, none, placeName, countLine, total}
 use Rattle.lines.specs.Text.{placeAfter}
 
 -- ---- digits, the last one apart
@@ -72,6 +73,30 @@ length-printed n row size =
       length-append (decimal row) (32 ∷ third),
       length-append (decimal n) (32 ∷ second),
     )
+
+length-name : (place : ℕ) → length (placeName place) ≤ 20
+length-name place = go (eqb place none)
+  where
+    go : (b : Bool) → length (cond b (110 ∷ 111 ∷ 110 ∷ 101 ∷ []) (decimal place)) ≤ 20
+    go true = omega arith
+    go false = length-digits 20 place
+
+pub length-count-line : (c : Count) → length (countLine c) ≤ 63
+length-count-line c =
+    let third : List ℕ = decimal (c .count) ++ (10 ∷ []) in
+    let second : List ℕ = decimal (c .row) ++ (32 ∷ third) in
+    omega (
+      arith,
+      length-name (c .place),
+      length-digits 20 (c .row),
+      length-digits 20 (c .count),
+      length-append (decimal (c .count)) (10 ∷ []),
+      length-append (decimal (c .row)) (32 ∷ third),
+      length-append (placeName (c .place)) (32 ∷ second),
+    )
+
+pub length-total : (n : ℕ) → length (total n) ≤ 63
+length-total n = omega (arith, length-digits 20 n, length-append (decimal n) (10 ∷ []))
 
 -- ---- the place after a text lies within the space, as its own place does
 pub place-within : (size i n : ℕ) → i ≤ size → placeAfter size i n ≤ size

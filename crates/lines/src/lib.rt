@@ -1,7 +1,9 @@
-// The lines that the program prints (document 01): one for each call, and a last one.
+// The lines that the programs print: one for each call and a last one (document 01), one for each count and a last one
+// (document 02, change 1).
 mod text;
 
 ghost use Rattle.rules.specs.Program.{decimal, printed, ended, cut};
+ghost use Rattle.rules.specs.Report.{countLine, total};
 ghost use Rattle.lines.specs.Text.{TextPut};
 
 // Each function here writes its text into space from place `at` on, and returns the place after it; where the text does
@@ -36,5 +38,21 @@ pub fn put_cut(space: &mut [u8], at: usize, n: u64) -> usize
     ensures { λ r. ⌜ TextPut (now (space .entry)) at (cut n) r (now (space .exit)) ⌝ }
 {
     let t = text::last(b'c', b'u', b't', n);
+    text::put(space, at, t)
+}
+
+// The line of a count: the place's name, the row and the count.
+pub fn put_count(space: &mut [u8], at: usize, place: u64, row: u64, count: u64) -> usize
+    ensures { λ r. ⌜ TextPut (now (space .entry)) at (countLine (record { place = place; row = row; count = count })) r (now (space .exit)) ⌝ }
+{
+    let t = text::count_line(place, row, count);
+    text::put(space, at, t)
+}
+
+// The last line of a report of n calls.
+pub fn put_total(space: &mut [u8], at: usize, n: u64) -> usize
+    ensures { λ r. ⌜ TextPut (now (space .entry)) at (total n) r (now (space .exit)) ⌝ }
+{
+    let t = text::calls(n);
     text::put(space, at, t)
 }

@@ -1,5 +1,6 @@
 -- The theorems over document 01's definitions: demand 1 (`Answers`), demand 2 (`RoundTrip`, `RepliesBack`), demand 3
--- (`Demand`), the placing rule (`Placing`), the customer's story (`OneLog`, `OpensNothing`). The other files lead to these.
+-- (`Demand`), the placing rule (`Placing`), the customer's story (`OneLog`, `OpensNothing`); and over document 02's: the
+-- shift report (`Counts`). The other files lead to these.
 pub mod Answers
 -- the placing rule
 pub mod Gaps
@@ -28,3 +29,5 @@ pub mod OpensNothing
 pub mod RoundTrip
 pub mod RepliesBack
 pub mod Demand2
+-- the shift report
+pub mod Counts

@@ -1,4 +1,4 @@
--- Document 01, read in this order.
+-- Document 01, read in this order; of document 02 the shift report, behind the program whose input it reads.
 pub mod Frame
 pub mod Drive
 pub mod Scope
@@ -11,4 +11,5 @@ pub mod Ledger
 pub mod Demands
 pub mod Story
 pub mod Program
+pub mod Report
 pub mod Cases

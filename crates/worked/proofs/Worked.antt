@@ -18,6 +18,17 @@ use Rattle.rules.specs.Frame.{credentialMagic, requestBytes, requestMagic}
 use Rattle.rules.specs.Gate.{Call, gate, refused}
 use Rattle.rules.specs.Operations.{keyIn}
 use Rattle.rules.specs.Program.{answered, broken, callsIn, callsOf, digits, leftIn, leftOf, linesFrom, prints, program}
+use Rattle.rules.specs.Report.{
+  countersFrom,
+  counters,
+  countLines,
+  countOf,
+  countsFrom,
+  countsIn,
+  countsUnder,
+  report,
+  reportOf,
+}
 use Rattle.worked.proofs.Signed.{
   AllKnown9,
   altered,
@@ -355,3 +366,11 @@ example : program exampleInput
     ≡ 49 ∷ 32 ∷ 50 ∷ 32 ∷ 48 ∷ 10 ∷ 50 ∷ 32 ∷ 51 ∷ 32 ∷ 48 ∷ 10 ∷ 101 ∷ 110 ∷ 100 ∷ 32 ∷ 50 ∷ 10 ∷ []
 unfolding program prints callsIn callsOf leftIn leftOf answered linesFrom broken digits opened
 example = refl
+
+-- document 02's of the shift report, change 1: of the same input `none 2 1`, `none 3 1`, `calls 2`
+example-report : report exampleInput
+    ≡ 110 ∷ 111 ∷ 110 ∷ 101 ∷ 32 ∷ 50 ∷ 32 ∷ 49 ∷ 10 ∷ 110 ∷ 111 ∷ 110 ∷ 101 ∷ 32 ∷ 51 ∷ 32 ∷ 49 ∷ 10
+    ∷ 99 ∷ 97 ∷ 108 ∷ 108 ∷ 115 ∷ 32 ∷ 50 ∷ 10 ∷ []
+unfolding report reportOf countLines countsIn countsFrom counters countersFrom countOf countsUnder
+    callsIn callsOf answered broken digits opened
+example-report = refl

@@ -4,8 +4,8 @@
 //! meant to be read beside the paper: what stands in quotation marks is the paper's own sentence, and below it is what it does.
 //!
 //! Read in this order: [`digest`], [`records`] (layouts, rows 3 to 7), [`drive`] (state, placing rule, rows 24 to 26), [`gate`]
-//! (rows 1 to 23 and the operations), [`client`] (issuer, builder, reply check: rows 26, 28 to 30), [`ledger`] (demand 3's).
-//! [`rng`] and [`traffic`] make the random calls of the tests.
+//! (rows 1 to 23 and the operations), [`client`] (issuer, builder, reply check: rows 26, 28 to 30), [`ledger`] (demand 3's),
+//! [`input`] (the records that the programs read), [`report`] (change 1). [`rng`] and [`traffic`] make the random calls of the tests.
 //!
 //! Build: `cargo build --release --offline`; or without cargo:
 //! `rustc --edition 2021 -O --crate-type lib --crate-name model src/lib.rs --out-dir OUT`, then for each program
@@ -15,7 +15,9 @@ pub mod client;
 pub mod digest;
 pub mod drive;
 pub mod gate;
+pub mod input;
 pub mod ledger;
 pub mod records;
+pub mod report;
 pub mod rng;
 pub mod traffic;

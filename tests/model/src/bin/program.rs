@@ -2,36 +2,26 @@
 
 use model::drive::format;
 use model::gate::gate;
-use std::io::{BufRead, BufReader, BufWriter, Read, Write};
+use model::input::{next, Next};
+use std::io::{stdin, stdout, BufReader, BufWriter, Write};
 
 fn main() {
-    let mut input = BufReader::new(std::io::stdin());
-    let mut output = BufWriter::new(std::io::stdout());
+    let mut input = BufReader::new(stdin());
+    let mut output = BufWriter::new(stdout());
     let mut medium = vec![0; 65_536];
     let (_, mut drive) = format(&mut medium, 1, &[0; 32], &[1; 32]);
     let mut space = vec![0; 65_536];
     let mut count = 0u64;
-    // "on a record with another mark or without all its bytes, or a length over 65,536, `cut` and that count"
     let last = loop {
-        if input.fill_buf().unwrap().is_empty() {
-            break "end";
+        match next(&mut input) {
+            Next::Record { clock, frame } => {
+                count += 1;
+                let (row, reply) = gate(&mut drive, &mut medium, &frame, clock, &mut space);
+                writeln!(output, "{count} {row} {reply}").unwrap();
+            }
+            Next::End => break "end",
+            Next::Broken => break "cut",
         }
-        let mut head = [0; 14];
-        if input.read_exact(&mut head).is_err() || head[..2] != [0x4c, 0x49] {
-            break "cut";
-        }
-        let clock = u64::from_be_bytes(head[2..10].try_into().unwrap());
-        let length = u32::from_be_bytes(head[10..].try_into().unwrap()) as usize;
-        if length > 65_536 {
-            break "cut";
-        }
-        let mut frame = vec![0; length];
-        if input.read_exact(&mut frame).is_err() {
-            break "cut";
-        }
-        count += 1;
-        let (row, reply) = gate(&mut drive, &mut medium, &frame, clock, &mut space);
-        writeln!(output, "{count} {row} {reply}").unwrap();
     };
     writeln!(output, "{last} {count}").unwrap();
 }

@@ -18,6 +18,7 @@ returns c = (
   )
       refl,
   omega arith,
+  omega arith,
 )
 
 pub last-spec : {M : Type 1} → statement M

@@ -6,23 +6,7 @@ use Rattle.lines.proofs.text.line.Statement.{statement}
 use Rattle.lines.proofs.text.line.Tie as tie
 
 returns : tie.Need-returns
-returns c = (
-  rw (
-    c .decimal-before3 .ensures .0,
-    c .before .byte-before3 .ensures .0,
-    c .before .before .decimal-before2 .ensures .0,
-    c .before .before .before .byte-before2 .ensures .0,
-    c .before .before .before .before .decimal-before .ensures .0,
-    c .before .before .before .before .before .byte-before .ensures .0,
-    c .before .before .before .before .before .before .blank .ensures .0,
-  )
-      refl,
-  omega arith,
-)
+returns c = (rw (c .decimal-before .ensures .0, c .before .row-and .ensures .0) refl, omega arith)
 
 pub line-spec : {M : Type 1} → statement M
-line-spec =
-    tie.close
-    (tie.spec
-    (λ c κs. search needs) (λ c κs. search needs) (λ c κs. search needs) (λ c κs. search needs) (λ c κs. search needs) (λ c κs. search needs)
-    (λ c κs. search needs) returns)
+line-spec = tie.close (tie.spec (λ c κs. search needs) (λ c κs. search needs) returns)
