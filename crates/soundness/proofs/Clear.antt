@@ -15,7 +15,6 @@ use Rattle.rules.specs.declared.Object.{Object}
 use Rattle.rules.specs.Drive.{mostObjects, soundObject, apart}
 use Rattle.rules.specs.Operations.{noObject}
 use Rattle.soundness.specs.Spans.{endOf, clash, clashAt, clearAt, each}
-use Rattle.soundness.proofs.Places.{each-first}
 use Rattle.soundness.proofs.Sound.{each-every}
 
 pub not-or : (a b : Bool) → not (a || b) ≡ (not a && not b)
@@ -50,14 +49,12 @@ module _ (l : List Object) (n : ℕ) (h : n < length l) where
         List·getD-map endOf l n noObject,
       )
 
-  -- what the loop over all places finds
-  clear-at : length l ≡ mostObjects → clearAt (map Object.number l) (map Object.start l) (map endOf l) n
+  -- what the loop over the places before n finds
+  clear-at : clearAt (map Object.number l) (map Object.start l) (map endOf l) n
       ≡ every (λ (a : Object). clear a (getD l n noObject)) (take n l)
-  clear-at e =
-      let clashes = clashAt (map Object.number l) (map Object.start l) (map endOf l) n in
-      each-first (λ (i : ℕ). not (clashes i)) n mostObjects (omega arith)
-      ∙ each-every (λ (i : ℕ). not (clashes i)) (λ (a : Object). clear a (getD l n noObject)) l noObject
-      (λ i. ap not (clash-at i)) n (omega arith)
+  clear-at =
+      each-every (λ (i : ℕ). not (clashAt (map Object.number l) (map Object.start l) (map endOf l) n i))
+      (λ (a : Object). clear a (getD l n noObject)) l noObject (λ i. ap not (clash-at i)) n (omega arith)
 
 -- ---- the first n objects, each against those before it
 module _ (l : List Object) (long : length l ≡ mostObjects) where
@@ -71,7 +68,7 @@ module _ (l : List Object) (long : length l ≡ mostObjects) where
       let h : n < length l = omega arith in
       let more : pairs clear (take (suc n) l) ≡ pairs clear (take n l) && every (λ (a : Object). clear a (getD l n noObject)) (take n l) =
       ap (λ (j : ℕ). pairs clear (take j l)) (sym (add-one n)) ∙ pairs-take clear l n noObject h in
-      rw (each-clear n (omega arith), clear-at l n h long) (sym more)
+      rw (each-clear n (omega arith), clear-at l n h) (sym more)
 
   -- what the loop over the first n finds
   pub clear-each : (numbers starts ends : List ℕ) (n : ℕ) → n ≤ mostObjects

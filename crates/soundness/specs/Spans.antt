@@ -60,6 +60,6 @@ pub each-more : (t : ℕ → Bool) (k : ℕ) → each t (k + 1) ≡ each t k && 
 unfolding each
 each-more t k = ap (each t) (add-one k)
 
--- whether place n clashes with none before it; the test goes over all places, and lets those from n on pass
+-- whether place n clashes with none before it
 abbrev pub clearAt : List ℕ → List ℕ → List ℕ → ℕ → Bool
-clearAt numbers starts ends n = each (λ (i : ℕ). leb n i || not (clashAt numbers starts ends n i)) mostObjects
+clearAt numbers starts ends n = each (λ (i : ℕ). not (clashAt numbers starts ends n i)) n

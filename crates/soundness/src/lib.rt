@@ -18,6 +18,10 @@ use state::TABLE;
 use state::VERSIONS;
 use std::num::wrapping_add_u32;
 
+// Up to so many objects are compared one pair after the other. Measured, that takes fewer instructions than loops over all
+// sixteen places, and from nine objects on more.
+const FEW_OBJECTS: usize = 8;
+
 // A number from 1, a nonempty extent inside the quarter, a version not over the last given. An end that wrapped is not
 // over its start.
 fn is_sound(number: u32, start: u32, end: u32, version: u32, quarter: u32, last: u32) -> bool
@@ -70,10 +74,10 @@ fn all_sound(
     r
 }
 
-// Whether object n shares neither a number nor a byte with one before it. The loop goes over all sixteen places, and not
-// to n: of a loop of fixed length without a branch, a compiler makes one that tests several objects at a time.
-fn is_clear(numbers: &[u32], starts: &[u32], ends: &[u32], n: usize) -> bool
-    requires { ⌜ (n < mostObjects) × (length (now numbers) ≡ mostObjects) × (length (now starts) ≡ mostObjects) × (length (now ends) ≡ mostObjects) ⌝ }
+// Whether object n shares neither a number nor a byte with one before it. The loop goes to `most`, and lets the places from n
+// on pass.
+fn is_clear(numbers: &[u32], starts: &[u32], ends: &[u32], n: usize, most: usize) -> bool
+    requires { ⌜ (n < mostObjects) × (n ≤ most) × (most ≤ mostObjects) × (length (now numbers) ≡ mostObjects) × (length (now starts) ≡ mostObjects) × (length (now ends) ≡ mostObjects) ⌝ }
     ensures { λ r. ⌜ r ≡ clearAt (now (numbers .entry)) (now (starts .entry)) (now (ends .entry)) n ⌝ }
 {
     let number = numbers[n];
@@ -81,30 +85,54 @@ fn is_clear(numbers: &[u32], starts: &[u32], ends: &[u32], n: usize) -> bool
     let end = ends[n];
     let mut hit = false;
     let mut i = 0;
-    while i < MOST_OBJECTS {
+    while i < most {
         hit = hit | ((i < n) & ((numbers[i] == number) | ((start < ends[i]) & (starts[i] < end))));
         i += 1;
     }
     !hit
 }
 
-// Whether no two of the first n clash. The loop goes to n rounded up to a multiple of eight, and an object from n on counts
-// as clear: so none is left over that would be tested alone. Its place is read from an array: with the bare i in that test,
-// the loop was measured to be twice as slow.
-fn all_clear(numbers: &[u32], starts: &[u32], ends: &[u32], n: usize) -> bool
+// Whether no two of the first n clash, by one pair after the other.
+fn few_clear(numbers: &[u32], starts: &[u32], ends: &[u32], n: usize) -> bool
+    requires { ⌜ (n ≤ mostObjects) × (length (now numbers) ≡ mostObjects) × (length (now starts) ≡ mostObjects) × (length (now ends) ≡ mostObjects) ⌝ }
+    ensures { λ r. ⌜ r ≡ each (clearAt (now (numbers .entry)) (now (starts .entry)) (now (ends .entry))) n ⌝ }
+{
+    let mut free = true;
+    let mut i = 0;
+    while i < n {
+        free = free & is_clear(numbers, starts, ends, i, i);
+        i += 1;
+    }
+    free
+}
+
+// The same, by loops over all sixteen places, in which an object from n on counts as clear: of loops of fixed length without
+// a branch, a compiler makes code that tests four objects at a time. An object's place is read from an array: with the bare i
+// in that test, the code was measured to take three times as many instructions.
+fn many_clear(numbers: &[u32], starts: &[u32], ends: &[u32], n: usize) -> bool
     requires { ⌜ (n ≤ mostObjects) × (length (now numbers) ≡ mostObjects) × (length (now starts) ≡ mostObjects) × (length (now ends) ≡ mostObjects) ⌝ }
     ensures { λ r. ⌜ r ≡ each (clearAt (now (numbers .entry)) (now (starts .entry)) (now (ends .entry))) n ⌝ }
 {
     let places = [0u32, 1, 2, 3, 4, 5, 6, 7, 8, 9, 10, 11, 12, 13, 14, 15];
     let first = n as u32;
-    let most = n + 7 - (n + 7) % 8;
     let mut free = true;
     let mut i = 0;
-    while i < most {
-        free = free & ((first <= places[i]) | is_clear(numbers, starts, ends, i));
+    while i < MOST_OBJECTS {
+        free = free & ((first <= places[i]) | is_clear(numbers, starts, ends, i, MOST_OBJECTS));
         i += 1;
     }
     free
+}
+
+// Whether no two of the first n clash.
+fn all_clear(numbers: &[u32], starts: &[u32], ends: &[u32], n: usize) -> bool
+    requires { ⌜ (n ≤ mostObjects) × (length (now numbers) ≡ mostObjects) × (length (now starts) ≡ mostObjects) × (length (now ends) ≡ mostObjects) ⌝ }
+    ensures { λ r. ⌜ r ≡ each (clearAt (now (numbers .entry)) (now (starts .entry)) (now (ends .entry))) n ⌝ }
+{
+    if n <= FEW_OBJECTS {
+        return few_clear(numbers, starts, ends, n);
+    }
+    many_clear(numbers, starts, ends, n)
 }
 
 // Whether a list is a table, and its partition is sound.

@@ -1,23 +1,23 @@
--- hit: whether a place under i clashes (each-more).
-use mathlib.Core.Path.{_≡_, refl, ap, _∙_}
+-- hit: whether a place under i clashes (each-more); those from n on pass (each-first).
+use mathlib.Core.Path.{_≡_, refl, _∙_}
 use mathlib.Core.Bool.{not, _&&_, _||_}
 use Prim.Native.Nat.{ℕ, _-_, _≤_}
 use native.Mathlib.Omega.{arith}
 use lib.Dec.{leb}
 use borrow.Author.Needs.{needs}
 use Rattle.lemmas.specs.Tests.{_under_}
-use Rattle.rules.specs.Drive.{mostObjects}
 use Rattle.soundness.specs.Spans.{each, each-more, clashAt}
 use Rattle.soundness.proofs.Clear.{not-or, not-and, not-under}
+use Rattle.soundness.proofs.Places.{each-first}
 use Rattle.soundness.proofs.is_clear.Statement.{statement}
 use Rattle.soundness.proofs.is_clear.Tie as tie
 
 abbrev Inv-loop : tie.InvT-loop
-Inv-loop numbers starts ends n number start end hit₀ i₀ hit i =
-    (i ≤ mostObjects) × (not hit ≡ each (λ (k : ℕ). leb n k || not (clashAt numbers starts ends n k)) i)
+Inv-loop numbers starts ends n most number start end hit₀ i₀ hit i =
+    (i ≤ most) × (not hit ≡ each (λ (k : ℕ). leb n k || not (clashAt numbers starts ends n k)) i)
 
 abbrev μ-loop : tie.MeasureT-loop
-μ-loop numbers starts ends n number start end hit₀ i₀ hit i = mostObjects - i
+μ-loop numbers starts ends n most number start end hit₀ i₀ hit i = most - i
 
 loop-holds : tie.Need-loop-holds Inv-loop μ-loop
 unfolding each
@@ -37,8 +37,7 @@ returns : tie.Need-returns Inv-loop μ-loop
 returns c =
     let l = c .before .loop in
     let a = c .before .before .before .before .before .args in
-    let e : l .i ≡ mostObjects = omega arith in
-    l .inv .1 ∙ ap (each (λ (k : ℕ). leb (a .n) k || not (clashAt (a .numbers .now) (a .starts .now) (a .ends .now) (a .n) k))) e
+    l .inv .1 ∙ each-first (λ (k : ℕ). not (clashAt (a .numbers .now) (a .starts .now) (a .ends .now) (a .n) k)) (a .n) (l .i) (omega arith)
 
 pub is-clear-spec : {M : Type 1} → statement M
 is-clear-spec =

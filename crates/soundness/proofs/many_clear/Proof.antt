@@ -10,15 +10,15 @@ use Rattle.rules.specs.Drive.{mostObjects}
 use Rattle.state.specs.Table.{range}
 use Rattle.soundness.specs.Spans.{clearAt, each, each-more}
 use Rattle.soundness.proofs.Places.{each-placed}
-use Rattle.soundness.proofs.all_clear.Statement.{statement}
-use Rattle.soundness.proofs.all_clear.Tie as tie
+use Rattle.soundness.proofs.many_clear.Statement.{statement}
+use Rattle.soundness.proofs.many_clear.Tie as tie
 
 abbrev Inv-loop : tie.InvT-loop
-Inv-loop numbers starts ends n places first most free₀ i₀ free i =
-    (i ≤ most) × (free ≡ each (λ (k : ℕ). leb first (getD places k 0) || clearAt numbers starts ends k) i)
+Inv-loop numbers starts ends n places first free₀ i₀ free i =
+    (i ≤ mostObjects) × (free ≡ each (λ (k : ℕ). leb first (getD places k 0) || clearAt numbers starts ends k) i)
 
 abbrev μ-loop : tie.MeasureT-loop
-μ-loop numbers starts ends n places first most free₀ i₀ free i = most - i
+μ-loop numbers starts ends n places first free₀ i₀ free i = mostObjects - i
 
 loop-holds : tie.Need-loop-holds Inv-loop μ-loop
 unfolding each
@@ -37,9 +37,9 @@ returns c =
     let a = c .before .before .before .before .before .args in
     l .inv .1 ∙ each-placed (clearAt (a .numbers .now) (a .starts .now) (a .ends .now)) (a .n) (l .i) (omega arith) (omega arith)
 
-pub all-clear-spec : {M : Type 1} → statement M
-all-clear-spec =
+pub many-clear-spec : {M : Type 1} → statement M
+many-clear-spec =
     tie.close
     (tie.spec
-    Inv-loop μ-loop (λ c. search needs) (λ c. search needs) (λ c. search needs) (λ c. search needs) loop-holds (λ c. search needs) (λ c. search needs)
+    Inv-loop μ-loop (λ c. search needs) loop-holds (λ c. search needs) (λ c. search needs)
     (λ c κs. search needs) (λ c. search needs) (λ c. search needs) loop-again returns)
