@@ -30,6 +30,8 @@ extern "C" {
 #define SIEVELAST_RECORD_TABLES 268 /* numbers: for each partition version, last version given, count of objects, and 16 each of
                                        number, version, size, start */
 #define SIEVELAST_RECORD_PLACES 320 /* entries: 64 for each replay memory */
+#define SIEVELAST_RECORD_ENTRY 3    /* numbers of an entry: slot, holder, count; its time stands in a row of its own */
+#define SIEVELAST_RECORD_ENTRIES (SIEVELAST_RECORD_PLACES * SIEVELAST_RECORD_ENTRY) /* numbers of all, those of an entry together */
 
 /* The drive's record. First what battery memory would keep, then what a drive may lose. A caller may read `size` and `highwater`
  * and copy a record whole while no call works on it; the rest is the drive's. Its form belongs to SIEVELAST_VERSION: whoever keeps
@@ -41,9 +43,7 @@ struct sievelast_drive {
     uint64_t highwater; /* the mark: the largest clock reading seen, in milliseconds */
     uint64_t lengths[SIEVELAST_MEMORIES];
     uint64_t times[SIEVELAST_RECORD_PLACES];
-    uint32_t holders[SIEVELAST_RECORD_PLACES];
-    uint32_t counts[SIEVELAST_RECORD_PLACES];
-    uint8_t slots[SIEVELAST_RECORD_PLACES];
+    uint32_t entries[SIEVELAST_RECORD_ENTRIES];
 };
 
 /* ---- the gate's and the issuer's answers */
@@ -74,17 +74,14 @@ struct sievelast_digest sievelast_hmac(const uint8_t *key, size_t key_len, const
 /* ---- format and gate as the archive exports them, over a record's parts: use the two below, which pass them in order */
 uint64_t sievelast_format_parts(uint64_t *size, uint64_t *highwater, uint8_t keys[SIEVELAST_RECORD_KEYS],
                                 uint32_t tables[SIEVELAST_RECORD_TABLES], uint64_t lengths[SIEVELAST_MEMORIES],
-                                uint8_t slots[SIEVELAST_RECORD_PLACES], uint32_t holders[SIEVELAST_RECORD_PLACES],
-                                uint64_t times[SIEVELAST_RECORD_PLACES], uint32_t counts[SIEVELAST_RECORD_PLACES],
+                                uint32_t entries[SIEVELAST_RECORD_ENTRIES], uint64_t times[SIEVELAST_RECORD_PLACES],
                                 uint8_t *medium, size_t medium_len, uint32_t first, const uint8_t *master, size_t master_len,
                                 const uint8_t *drive_key, size_t drive_key_len);
 
 struct sievelast_answered sievelast_gate_parts(uint64_t size, uint64_t *highwater, uint8_t keys[SIEVELAST_RECORD_KEYS],
                                                uint32_t tables[SIEVELAST_RECORD_TABLES], uint64_t lengths[SIEVELAST_MEMORIES],
-                                               uint8_t slots[SIEVELAST_RECORD_PLACES],
-                                               uint32_t holders[SIEVELAST_RECORD_PLACES],
-                                               uint64_t times[SIEVELAST_RECORD_PLACES],
-                                               uint32_t counts[SIEVELAST_RECORD_PLACES], uint8_t *medium, size_t medium_len,
+                                               uint32_t entries[SIEVELAST_RECORD_ENTRIES],
+                                               uint64_t times[SIEVELAST_RECORD_PLACES], uint8_t *medium, size_t medium_len,
                                                const uint8_t *frame, size_t frame_len, uint64_t clock, uint8_t *reply,
                                                size_t reply_len);
 
@@ -96,9 +93,8 @@ static inline uint64_t sievelast_format(struct sievelast_drive *drive, uint8_t *
                                         const uint8_t *master, size_t master_len, const uint8_t *drive_key,
                                         size_t drive_key_len)
 {
-    return sievelast_format_parts(&drive->size, &drive->highwater, drive->keys, drive->tables, drive->lengths, drive->slots,
-                                  drive->holders, drive->times, drive->counts, medium, medium_len, first, master, master_len,
-                                  drive_key, drive_key_len);
+    return sievelast_format_parts(&drive->size, &drive->highwater, drive->keys, drive->tables, drive->lengths, drive->entries,
+                                  drive->times, medium, medium_len, first, master, master_len, drive_key, drive_key_len);
 }
 
 /* Puts a frame to the gate at a clock reading in milliseconds. A grant writes the reply at the start of reply; bytes after it
@@ -108,9 +104,8 @@ static inline struct sievelast_answered sievelast_gate(struct sievelast_drive *d
                                                        const uint8_t *frame, size_t frame_len, uint64_t clock, uint8_t *reply,
                                                        size_t reply_len)
 {
-    return sievelast_gate_parts(drive->size, &drive->highwater, drive->keys, drive->tables, drive->lengths, drive->slots,
-                                drive->holders, drive->times, drive->counts, medium, medium_len, frame, frame_len, clock, reply,
-                                reply_len);
+    return sievelast_gate_parts(drive->size, &drive->highwater, drive->keys, drive->tables, drive->lengths, drive->entries,
+                                drive->times, medium, medium_len, frame, frame_len, clock, reply, reply_len);
 }
 
 #ifdef __cplusplus

@@ -2,8 +2,8 @@
  * call must answer and leave behind, from any record, sound or not. */
 #ifndef TESTS_PAPER_DRIVE_H
 #define TESTS_PAPER_DRIVE_H
+#include "entry.h"
 #include "paper.h"
-#include "sievelast_store.h"
 
 /* ---- the record's form: a partition's table, and its keys */
 enum {
@@ -77,10 +77,8 @@ static inline int paper_sound(struct sievelast_drive *d)
 /* ---- the replay memories */
 static inline void move_entry(struct sievelast_drive *d, size_t to, size_t from)
 {
-    d->slots[to] = d->slots[from];
-    d->holders[to] = d->holders[from];
     d->times[to] = d->times[from];
-    d->counts[to] = d->counts[from];
+    memmove(entry_at(d->entries, to), entry_at(d->entries, from), entry_bytes(1));
 }
 
 /* T + 5,000 is under the mark; the sum may pass 64 bits. */
@@ -88,7 +86,7 @@ static inline int outlived(uint64_t time, uint64_t mark) { return mark >= SIEVEL
 
 static inline void drop_outlived(struct sievelast_drive *d, int memory)
 {
-    size_t first = (size_t)memory * SIEVELAST_MOST_ENTRIES, kept = 0;
+    size_t first = first_place(memory), kept = 0;
     for (size_t i = 0; i < d->lengths[memory]; i++)
         if (!outlived(d->times[first + i], d->highwater))
             move_entry(d, first + kept++, first + i);
@@ -157,11 +155,21 @@ static inline uint64_t row_2_to_7(const uint8_t *frame, size_t frame_len)
     return paper_row_6(c, r) ? 6 : paper_row_7(c, r) ? 7 : 0;
 }
 
+/* "A grant enters (slot, holder, T, count)", which are the nonce: T is q->time, and here are the other numbers. */
+static inline void entry_of(const struct paper_call *q, uint32_t out[SIEVELAST_RECORD_ENTRY])
+{
+    out[ENTRY_SLOT] = (uint32_t)q->slot;
+    out[ENTRY_HOLDER] = q->holder;
+    out[ENTRY_COUNT] = q->count;
+}
+
 static inline int replayed(const struct sievelast_drive *d, const struct paper_call *q)
 {
-    size_t first = (size_t)q->memory * SIEVELAST_MOST_ENTRIES;
+    uint32_t nonce[SIEVELAST_RECORD_ENTRY];
+    size_t first = first_place(q->memory);
+    entry_of(q, nonce);
     for (size_t i = first; i < first + d->lengths[q->memory]; i++)
-        if (d->slots[i] == q->slot && d->holders[i] == q->holder && d->times[i] == q->time && d->counts[i] == q->count)
+        if (d->times[i] == q->time && !memcmp(entry_seen(d->entries, i), nonce, sizeof nonce))
             return 1;
     return 0;
 }
@@ -316,7 +324,7 @@ static inline void grant_key(struct sievelast_drive *d, const struct paper_call 
 static inline size_t paper_grant(struct sievelast_drive *d, uint8_t *medium, const struct paper_call *q, uint8_t *reply)
 {
     uint8_t key[32], *result = reply + SIEVELAST_REPLY_HEAD_BYTES;
-    size_t place = (size_t)q->memory * SIEVELAST_MOST_ENTRIES + d->lengths[q->memory]++;
+    size_t place = first_place(q->memory) + d->lengths[q->memory]++;
     credential_key(d, q, key);
     if (q->operation <= 2)
         grant_bytes(d, medium, q, result);
@@ -330,10 +338,8 @@ static inline size_t paper_grant(struct sievelast_drive *d, uint8_t *medium, con
         grant_delete(d, q);
     else
         grant_key(d, q);
-    d->slots[place] = (uint8_t)q->slot;
-    d->holders[place] = q->holder;
     d->times[place] = q->time;
-    d->counts[place] = q->count;
+    entry_of(q, entry_at(d->entries, place));
     return paper_reply(key, q->c, q->r, reply, paper_result(q->r));
 }
 
@@ -398,10 +404,9 @@ static inline int same_table(const uint32_t *a, const uint32_t *b)
 /* The first n entries of a memory. */
 static inline int same_entries(const struct sievelast_drive *a, const struct sievelast_drive *b, int memory, size_t n)
 {
-    size_t i = (size_t)memory * SIEVELAST_MOST_ENTRIES;
-    return a->lengths[memory] == b->lengths[memory] && !memcmp(a->slots + i, b->slots + i, n) &&
-           !memcmp(a->holders + i, b->holders + i, n * sizeof *a->holders) && !memcmp(a->times + i, b->times + i, n * sizeof *a->times) &&
-           !memcmp(a->counts + i, b->counts + i, n * sizeof *a->counts);
+    size_t i = first_place(memory);
+    return a->lengths[memory] == b->lengths[memory] && !memcmp(a->times + i, b->times + i, n * sizeof *a->times) &&
+           !memcmp(entry_seen(a->entries, i), entry_seen(b->entries, i), entry_bytes(n));
 }
 
 /* Whether a key, table or memory is what it must be after a call that found it as `before`. One that the call does not change keeps

@@ -68,6 +68,7 @@ static void constants(void)
 
     EXPECT(SIEVELAST_RECORD_KEYS == (1 + 1 + 4 * 3) * (32 + 1));
     EXPECT(SIEVELAST_RECORD_TABLES == 4 * (3 + 4 * 16) && SIEVELAST_RECORD_PLACES == 5 * 64);
+    EXPECT(SIEVELAST_RECORD_ENTRY == 3 && SIEVELAST_RECORD_ENTRIES == 5 * 64 * 3);
 }
 
 /* What the archives were compiled for: the structs that calls take and return. */

@@ -20,10 +20,8 @@ static const struct record_part record_parts[] = {
     RECORD_PART("keys", keys, SIEVELAST_RECORD_KEYS, 0),
     RECORD_PART("tables", tables, SIEVELAST_RECORD_TABLES, 1),
     RECORD_PART("lengths", lengths, SIEVELAST_MEMORIES, 1),
-    RECORD_PART("slots", slots, SIEVELAST_RECORD_PLACES, 0),
-    RECORD_PART("holders", holders, SIEVELAST_RECORD_PLACES, 0),
+    RECORD_PART("entries", entries, SIEVELAST_RECORD_ENTRIES, 0),
     RECORD_PART("times", times, SIEVELAST_RECORD_PLACES, 0),
-    RECORD_PART("counts", counts, SIEVELAST_RECORD_PLACES, 0),
 };
 enum { RECORD_PARTS = sizeof record_parts / sizeof *record_parts, SPOIL_WAYS = 16 };
 

@@ -1,21 +1,15 @@
 /* A gate that is stopped in the middle of its first call: linked into the example store by --wrap=sievelast_gate_parts, it makes
  * every start of that server end so. Of what the call changed in the medium the second half is put back, half of each part of the
  * record is spoilt, and the process is killed. */
-#include "sievelast_store.h"
+#include "parts.h"
 #include <signal.h>
 #include <stdlib.h>
 #include <string.h>
 
 #define SPOILT 0xee
 
-struct sievelast_answered __real_sievelast_gate_parts(uint64_t size, uint64_t *highwater, uint8_t *keys, uint32_t *tables,
-                                                      uint64_t *lengths, uint8_t *slots, uint32_t *holders, uint64_t *times,
-                                                      uint32_t *counts, uint8_t *medium, size_t medium_len, const uint8_t *frame,
-                                                      size_t frame_len, uint64_t clock, uint8_t *reply, size_t reply_len);
-struct sievelast_answered __wrap_sievelast_gate_parts(uint64_t size, uint64_t *highwater, uint8_t *keys, uint32_t *tables,
-                                                      uint64_t *lengths, uint8_t *slots, uint32_t *holders, uint64_t *times,
-                                                      uint32_t *counts, uint8_t *medium, size_t medium_len, const uint8_t *frame,
-                                                      size_t frame_len, uint64_t clock, uint8_t *reply, size_t reply_len);
+struct sievelast_answered __real_sievelast_gate_parts(GATE_PARAMETERS);
+struct sievelast_answered __wrap_sievelast_gate_parts(GATE_PARAMETERS);
 
 /* The second half of the bytes that differ gets its old values. */
 static void put_back_half(uint8_t *medium, const uint8_t *before, size_t n)
@@ -29,17 +23,13 @@ static void put_back_half(uint8_t *medium, const uint8_t *before, size_t n)
     memcpy(medium + middle, before + middle, end - middle);
 }
 
-struct sievelast_answered __wrap_sievelast_gate_parts(uint64_t size, uint64_t *highwater, uint8_t *keys, uint32_t *tables,
-                                                      uint64_t *lengths, uint8_t *slots, uint32_t *holders, uint64_t *times,
-                                                      uint32_t *counts, uint8_t *medium, size_t medium_len, const uint8_t *frame,
-                                                      size_t frame_len, uint64_t clock, uint8_t *reply, size_t reply_len)
+struct sievelast_answered __wrap_sievelast_gate_parts(GATE_PARAMETERS)
 {
     uint8_t *before = malloc(medium_len);
     if (!before)
         abort();
     memcpy(before, medium, medium_len);
-    struct sievelast_answered a = __real_sievelast_gate_parts(size, highwater, keys, tables, lengths, slots, holders, times, counts,
-                                                              medium, medium_len, frame, frame_len, clock, reply, reply_len);
+    struct sievelast_answered a = __real_sievelast_gate_parts(GATE_PASSED);
     put_back_half(medium, before, medium_len);
     memset(keys, SPOILT, SIEVELAST_RECORD_KEYS / 2);
     memset(tables, SPOILT, SIEVELAST_RECORD_TABLES / 2 * sizeof *tables);

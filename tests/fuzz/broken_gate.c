@@ -4,13 +4,6 @@
 
 #include <string.h>
 
-#define FORMAT_PARAMETERS                                                                                                          \
-    uint64_t *size, PARTS, uint8_t *medium, size_t medium_len, uint32_t first, const uint8_t *master, size_t master_len,           \
-        const uint8_t *key, size_t key_len
-#define GATE_PARAMETERS                                                                                                            \
-    uint64_t size, PARTS, uint8_t *medium, size_t medium_len, const uint8_t *frame, size_t frame_len, uint64_t clock, uint8_t *reply, \
-        size_t reply_len
-
 uint64_t __real_sievelast_format_parts(FORMAT_PARAMETERS);
 uint64_t __wrap_sievelast_format_parts(FORMAT_PARAMETERS);
 struct sievelast_answered __real_sievelast_gate_parts(GATE_PARAMETERS);
@@ -22,7 +15,7 @@ __attribute__((no_sanitize("address", "undefined"), unused)) static void spoil(c
 uint64_t __wrap_sievelast_format_parts(FORMAT_PARAMETERS)
 {
     uint64_t kept = *highwater;
-    uint64_t row = __real_sievelast_format_parts(size, PARTS_PASSED, medium, medium_len, first, master, master_len, key, key_len);
+    uint64_t row = __real_sievelast_format_parts(FORMAT_PASSED);
 #if BROKEN_gate == 1 /* a refused format leaves a part of the record */
     if (row)
         *highwater = kept;
@@ -38,8 +31,7 @@ struct sievelast_answered __wrap_sievelast_gate_parts(GATE_PARAMETERS)
 {
     uint64_t held[SIEVELAST_MEMORIES], mark = *highwater;
     memcpy(held, lengths, sizeof held);
-    struct sievelast_answered a =
-        __real_sievelast_gate_parts(size, PARTS_PASSED, medium, medium_len, frame, frame_len, clock, reply, reply_len);
+    struct sievelast_answered a = __real_sievelast_gate_parts(GATE_PASSED);
 #if BROKEN_gate == 3 /* one byte past the reply space */
     if (a.row == 0)
         spoil(reply + reply_len);

@@ -20,7 +20,7 @@ static void areas_make(void)
     if (medium.pages)
         return;
     for (size_t i = 0; i < RECORD_PARTS; i++)
-        area_make(&parts[i], 1);
+        area_make(&parts[i], pages_for(record_parts[i].width * record_parts[i].count));
     for (size_t i = 0; i < sizeof others / sizeof *others; i++)
         area_make(others[i], 1);
 }
@@ -50,14 +50,14 @@ static uint64_t *longs_of(int part) { return (uint64_t *)(void *)parts[part].len
 
 static uint64_t format_parts(uint32_t first)
 {
-    return sievelast_format_parts(longs_of(0), longs_of(1), bytes_of(2), words_of(3), longs_of(4), bytes_of(5), words_of(6), longs_of(7),
-                                  words_of(8), medium.given, medium.length, first, master.given, master.length, key.given, key.length);
+    return sievelast_format_parts(longs_of(0), longs_of(1), bytes_of(2), words_of(3), longs_of(4), words_of(5), longs_of(6),
+                                  medium.given, medium.length, first, master.given, master.length, key.given, key.length);
 }
 
 static struct sievelast_answered gate_parts(size_t medium_len, uint64_t clock)
 {
-    return sievelast_gate_parts(*longs_of(0), longs_of(1), bytes_of(2), words_of(3), longs_of(4), bytes_of(5), words_of(6), longs_of(7),
-                                words_of(8), medium.given, medium_len, frame.given, frame.length, clock, reply.given, reply.length);
+    return sievelast_gate_parts(*longs_of(0), longs_of(1), bytes_of(2), words_of(3), longs_of(4), words_of(5), longs_of(6),
+                                medium.given, medium_len, frame.given, frame.length, clock, reply.given, reply.length);
 }
 
 /* ---- format: of a medium that holds anything, over a record that holds anything */
@@ -105,7 +105,7 @@ static void prepare(struct choices *s)
     drive.highwater = choose(s, 12000);
     for (size_t i = 0; i < SIEVELAST_RECORD_PLACES; i++) {
         drive.times[i] = drive.highwater + 2000 - i % SIEVELAST_MOST_ENTRIES * 100;
-        drive.counts[i] = (uint32_t)i;
+        entry_at(drive.entries, i)[ENTRY_COUNT] = (uint32_t)i;
     }
 }
 

@@ -27,6 +27,8 @@ struct area {
         }                                                                      \
     } while (0)
 
+static inline size_t pages_for(size_t bytes) { return (bytes + PAGE - 1) / PAGE; }
+
 static inline void area_make(struct area *a, size_t pages)
 {
     a->size = pages * PAGE;

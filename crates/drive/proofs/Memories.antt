@@ -19,19 +19,17 @@ use Rattle.lemmas.specs.Chunks.{chunks, chunks-length, chunks-at, chunk-length,
 use Rattle.rules.specs.declared.Entry.{Entry}
 use Rattle.rules.specs.Drive.{largestMedium, lives, mostEntries, quarter, refresh, sound, soundPartition}
 use Rattle.keyring.specs.Keys.{partitionCount}
-use Rattle.memory.specs.Memory.{memoryCount, memoryPlaces, noEntry, entriesIn, Purged}
+use Rattle.memory.specs.Memory.{memoryCount, memoryPlaces, entrySize, noEntry, entriesIn, Entered, Purged}
 use Rattle.state.specs.Padded.{padded, padded-is, padded-length}
 use Rattle.state.specs.Table.{partitionView}
 use Rattle.memory.specs.Entries.{
   entries-length,
-  entries-set,
   entries-append,
   entries-take,
   entries-drop,
-  purged-slots,
-  purged-holders,
+  entered-held,
+  purged-entries,
   purged-times,
-  purged-counts,
 }
 use Rattle.drive.specs.declared.Drive.{Drive}
 use Rattle.drive.specs.View.{view, tablesIn, memoriesIn, entriesFit, MemoriesFit}
@@ -113,150 +111,133 @@ pub short-at : (ns : List ℕ) (k : ℕ) → every entriesFit ns ≡ true → ge
 short-at ns k h = leb-true (getD ns k 0) mostEntries (every-nth entriesFit ns k 0 refl h)
 
 -- ---- the arrays of five memories
-module _ (ns s h t n : List ℕ) (w : MemoriesFit ns s h t n) where
+module _ (ns es ts : List ℕ) (w : MemoriesFit ns es ts) where
   abbrev all : List Entry
-  all = entriesIn s h t n
+  all = entriesIn es ts
 
   pub places : length all ≡ memoryPlaces
-  places = entries-length s h t n (w .holders ∙ sym (w .slots)) (w .times ∙ sym (w .slots)) (w .counts ∙ sym (w .slots))
-      ∙ w .slots
+  places = entries-length es ts (omega (arith, w .entries, w .times)) ∙ w .times
 
   enough : mostEntries * length ns ≤ length all
   enough = omega (arith, places, w .five)
 
   module _ (k : ℕ) (low : k < memoryCount) where
     pub held-at : getD (memoriesIn ns all) k [] ≡ take (getD ns k 0) (drop (mostEntries * k) all)
-    held-at = memory-at ns all k (omega (arith, w .five)) (short-at ns k (w .entries))
+    held-at = memory-at ns all k (omega (arith, w .five)) (short-at ns k (w .short))
 
     pub held-long : getD ns k 0 ≡ length (getD (memoriesIn ns all) k [])
     held-long = sym (memory-long ns all k (omega (arith, w .five)) enough)
 
     -- one entry more
-    pub joined-at : (x : Entry) → getD ns k 0 < mostEntries
-        → memoriesIn (set ns k (getD ns k 0 + 1)) (entriesIn (set s (mostEntries * k + getD ns k 0) (x .slot))
-        (set h (mostEntries * k + getD ns k 0) (x .holder)) (set t (mostEntries * k + getD ns k 0) (x .time))
-        (set n (mostEntries * k + getD ns k 0) (x .count)))
+    pub joined-at : (x : Entry) (fs us : List ℕ) → Entered es ts (mostEntries * k + getD ns k 0) x fs us
+        → getD ns k 0 < mostEntries
+        → memoriesIn (set ns k (getD ns k 0 + 1)) (entriesIn fs us)
         ≡ update k (λ (old : List Entry). old ++ (x ∷ [])) (memoriesIn ns all)
-    joined-at x room = ap (memoriesIn (set ns k (getD ns k 0 + 1)))
-        (entries-set s h t n (mostEntries * k + getD ns k 0) (x .slot) (x .holder) (x .time) (x .count))
+    joined-at x fs us p room = ap (memoriesIn (set ns k (getD ns k 0 + 1)))
+        (entered-held es ts (mostEntries * k + getD ns k 0) x fs us p)
         ∙ memory-joined ns all k (omega (arith, w .five)) enough (getD ns k 0) x refl room
 
-    -- the part of each array that memory k has
-    module _ (size : ℕ) (whole : size ≡ getD ns k 0) where
-      abbrev part : List Entry
-      part = entriesIn (midOf (mostEntries * k) size s) (midOf (mostEntries * k) size h) (midOf (mostEntries * k) size t) (midOf (mostEntries * k) size n)
+    -- the part of each array that memory k has: `size` places, `wide` numbers
+    module _ (size wide : ℕ) (whole : size ≡ getD ns k 0) (span : wide ≡ entrySize * size) where
+      abbrev start : ℕ
+      start = mostEntries * k
 
-      part-is : part ≡ take size (drop (mostEntries * k) all)
-      part-is = entries-take (drop (mostEntries * k) s) (drop (mostEntries * k) h) (drop (mostEntries * k) t) (drop (mostEntries * k) n) size
-          ∙ ap (take size) (entries-drop s h t n (mostEntries * k))
+      abbrev numbers : List ℕ
+      numbers = midOf (entrySize * start) wide es
 
-      pub part-at : part ≡ getD (memoriesIn ns all) k []
-      part-at = part-is ∙ ap (λ (i : ℕ). take i (drop (mostEntries * k) all)) whole ∙ sym held-at
+      abbrev times : List ℕ
+      times = midOf start size ts
 
-    -- what a purge of that part left: r entries, in ss, hs, ts and cs
-    module _ (mark size r : ℕ) (whole : size ≡ getD ns k 0) (ss hs ts cs : List ℕ)
-        (p : Purged mark (midOf (mostEntries * k) size s) (midOf (mostEntries * k) size h) (midOf (mostEntries * k) size t) (midOf (mostEntries * k) size n)
-        ss hs ts cs r) where
-      ls : length ss ≡ length (midOf (mostEntries * k) size s)
-      ls = purged-slots mark _ _ _ _ ss hs ts cs r p
+      inside : start + size ≤ memoryPlaces
+      inside = omega (arith, short-at ns k (w .short))
 
-      lh : length hs ≡ length (midOf (mostEntries * k) size h)
-      lh = purged-holders mark _ _ _ _ ss hs ts cs r p
+      behind : entrySize * size ≤ length (drop (entrySize * start) es)
+      behind = omega (arith, inside, w .entries, length-drop (entrySize * start) es)
 
-      lt : length ts ≡ length (midOf (mostEntries * k) size t)
-      lt = purged-times mark _ _ _ _ ss hs ts cs r p
+      part-is : entriesIn numbers times ≡ take size (drop start all)
+      part-is =
+          ap (λ (n : ℕ). entriesIn (midOf (entrySize * start) n es) times) span
+          ∙ entries-take (drop (entrySize * start) es) (drop start ts) size behind
+          ∙ ap (take size) (entries-drop es ts start (omega (arith, inside, w .entries)))
 
-      lc : length cs ≡ length (midOf (mostEntries * k) size n)
-      lc = purged-counts mark _ _ _ _ ss hs ts cs r p
+      pub part-at : entriesIn numbers times ≡ getD (memoriesIn ns all) k []
+      part-at = part-is ∙ ap (λ (i : ℕ). take i (drop start all)) whole ∙ sym held-at
 
-      abbrev held : List Entry
-      held = part size whole
+      -- what a purge of that part left: r entries, in fs and us
+      module _ (mark r : ℕ) (fs us : List ℕ) (p : Purged mark numbers times fs us r) where
+        long-numbers : length fs ≡ length numbers
+        long-numbers = purged-entries mark numbers times fs us r p
 
-      fits : size ≤ mostEntries
-      fits = let b = short-at ns k (w .entries) in omega arith
+        long-times : length us ≡ length times
+        long-times = purged-times mark numbers times fs us r p
 
-      long-in : (x : List ℕ) → length x ≡ memoryPlaces → length (midOf (mostEntries * k) size x) ≡ size
-      long-in x e =
-          let a = length-take size (drop (mostEntries * k) x) in
-          let b = length-drop (mostEntries * k) x in
-          let c = fits in
-          omega arith
+        -- as many numbers and times as before
+        as-wide : (length fs ≡ entrySize * size) × (length us ≡ size)
+        as-wide = (
+          long-numbers ∙ omega (arith, span, behind, length-take wide (drop (entrySize * start) es)),
+          long-times ∙ omega (arith, inside, w .times, length-take size (drop start ts), length-drop start ts),
+        )
 
-      long-before : (x : List ℕ) → length x ≡ memoryPlaces → length (take (mostEntries * k) x) ≡ mostEntries * k
-      long-before x e = let a = length-take (mostEntries * k) x in omega arith
+        even : length fs ≡ entrySize * length us
+        even = omega (arith, as-wide .0, as-wide .1)
 
-      put-is : entriesIn (putMid (mostEntries * k) size s ss) (putMid (mostEntries * k) size h hs) (putMid (mostEntries * k) size t ts)
-          (putMid (mostEntries * k) size n cs) ≡ take (mostEntries * k) all ++ (entriesIn ss hs ts cs ++ drop size (drop (mostEntries * k) all))
-      put-is =
-          let a = long-before s (w .slots) in
-          let ps = long-in s (w .slots) in
-          entries-append (take (mostEntries * k) s) (take (mostEntries * k) h) (take (mostEntries * k) t) (take (mostEntries * k) n)
-          (long-before h (w .holders) ∙ sym a) (long-before t (w .times) ∙ sym a) (long-before n (w .counts) ∙ sym a) _ _ _ _
-          ∙ rw (
-            entries-take s h t n (mostEntries * k),
-            entries-append ss hs ts cs (lh ∙ long-in h (w .holders) ∙ sym (ls ∙ ps)) (lt ∙ long-in t (w .times) ∙ sym (ls ∙ ps))
-                (lc ∙ long-in n (w .counts) ∙ sym (ls ∙ ps)) (drop size (drop (mostEntries * k) s)) (drop size (drop (mostEntries * k) h))
-                (drop size (drop (mostEntries * k) t)) (drop size (drop (mostEntries * k) n)),
-            entries-drop (drop (mostEntries * k) s) (drop (mostEntries * k) h) (drop (mostEntries * k) t) (drop (mostEntries * k) n) size,
-            entries-drop s h t n (mostEntries * k),
-          )
+        put-is : entriesIn (putMid (entrySize * start) wide es fs) (putMid start size ts us)
+            ≡ take start all ++ (entriesIn fs us ++ drop size (drop start all))
+        put-is =
+            entries-append (take (entrySize * start) es) (take start ts)
+            (omega (arith, inside, w .entries, w .times, length-take (entrySize * start) es, length-take start ts))
+            (fs ++ drop wide (drop (entrySize * start) es)) (us ++ drop size (drop start ts))
+            ∙ rw (
+              entries-take es ts start (omega (arith, inside, w .entries)),
+              entries-append fs us even (drop wide (drop (entrySize * start) es)) (drop size (drop start ts)),
+              span,
+              entries-drop (drop (entrySize * start) es) (drop start ts) size behind,
+              entries-drop es ts start (omega (arith, inside, w .entries)),
+            )
 
-      left-long : length (entriesIn ss hs ts cs) ≡ size
-      left-long =
-          let ps = long-in s (w .slots) in
-          entries-length ss hs ts cs (lh ∙ long-in h (w .holders) ∙ sym (ls ∙ ps)) (lt ∙ long-in t (w .times) ∙ sym (ls ∙ ps))
-          (lc ∙ long-in n (w .counts) ∙ sym (ls ∙ ps)) ∙ ls ∙ ps
+        r-low : r ≤ size
+        r-low =
+            let b : length (entriesIn numbers times) ≡ size = ap length part-at ∙ sym held-long ∙ sym whole in
+            omega (arith, p .count, length-keep (lives mark) (entriesIn numbers times))
 
-      r-low : r ≤ size
-      r-low =
-          let a = length-keep (lives mark) held in
-          let b : length held ≡ size = ap length (part-at size whole) ∙ sym held-long ∙ sym whole in
-          omega (arith, p .count)
+        pub purged-at : memoriesIn (set ns k r) (entriesIn (putMid (entrySize * start) wide es fs) (putMid start size ts us))
+            ≡ set (memoriesIn ns all) k (keep (lives mark) (getD (memoriesIn ns all) k []))
+        purged-at =
+            ap (memoriesIn (set ns k r)) put-is
+            ∙ memory-dropped ns all k (omega (arith, w .five)) enough size r (entriesIn fs us)
+            (entries-length fs us even ∙ as-wide .1) (omega (arith, whole, short-at ns k (w .short))) r-low
+            ∙ ap (set (memoriesIn ns all) k) (p .front ∙ ap (keep (lives mark)) part-at)
 
-      pub purged-at : memoriesIn (set ns k r) (entriesIn (putMid (mostEntries * k) size s ss) (putMid (mostEntries * k) size h hs)
-          (putMid (mostEntries * k) size t ts) (putMid (mostEntries * k) size n cs))
-          ≡ set (memoriesIn ns all) k (keep (lives mark) (getD (memoriesIn ns all) k []))
-      purged-at =
-          ap (memoriesIn (set ns k r)) put-is
-          ∙ memory-dropped ns all k (omega (arith, w .five)) enough size r (entriesIn ss hs ts cs) left-long fits r-low
-          ∙ ap (set (memoriesIn ns all) k) (p .front ∙ ap (keep (lives mark)) (part-at size whole))
-
-      pub placed-still : MemoriesFit (set ns k r) (putMid (mostEntries * k) size s ss) (putMid (mostEntries * k) size h hs)
-          (putMid (mostEntries * k) size t ts) (putMid (mostEntries * k) size n cs)
-      placed-still = record {
-        five = length-set ns k r ∙ w .five;
-        entries = every-set entriesFit ns k r (le-leb r mostEntries (omega (arith, r-low, fits))) (w .entries);
-        slots = same-len-mid (mostEntries * k) size s ss ls ∙ w .slots;
-        holders = same-len-mid (mostEntries * k) size h hs lh ∙ w .holders;
-        times = same-len-mid (mostEntries * k) size t ts lt ∙ w .times;
-        counts = same-len-mid (mostEntries * k) size n cs lc ∙ w .counts;
-      }
+        pub placed-still : MemoriesFit (set ns k r) (putMid (entrySize * start) wide es fs) (putMid start size ts us)
+        placed-still = record {
+          five = length-set ns k r ∙ w .five;
+          short = every-set entriesFit ns k r (le-leb r mostEntries (omega (arith, r-low, whole, short-at ns k (w .short)))) (w .short);
+          entries = same-len-mid (entrySize * start) wide es fs long-numbers ∙ w .entries;
+          times = same-len-mid start size ts us long-times ∙ w .times;
+        }
 
 -- ---- the drive at a clock reading: its mark later, its memories without outlived entries
-pub refreshed-view : (d : Drive) (clock mark : ℕ) (ns s h t n : List ℕ) → mark ≡ max (d .highwater) clock
-    → memoriesIn ns (entriesIn s h t n)
-    ≡ map (keep (lives mark)) (memoriesIn (d .lengths) (entriesIn (d .slots) (d .holders) (d .times) (d .counts)))
+pub refreshed-view : (d : Drive) (clock mark : ℕ) (ns es ts : List ℕ) → mark ≡ max (d .highwater) clock
+    → memoriesIn ns (entriesIn es ts) ≡ map (keep (lives mark)) (memoriesIn (d .lengths) (entriesIn (d .entries) (d .times)))
     → view (record {
       size = d .size;
       highwater = mark;
       keys = d .keys;
       tables = d .tables;
       lengths = ns;
-      slots = s;
-      holders = h;
-      times = t;
-      counts = n;
+      entries = es;
+      times = ts;
     }) ≡ refresh clock (view d)
 unfolding view refresh
-refreshed-view d clock mark ns s h t n e kept = rw (kept, e) refl
+refreshed-view d clock mark ns es ts e kept = rw (kept, e) refl
 
 -- ---- row 1's test of a record, by its tables and its memories' lengths
-pub sound-view : (d : Drive) → length (d .lengths) ≡ memoryCount → length (d .slots) ≡ memoryPlaces → length (d .holders) ≡ memoryPlaces
-    → length (d .times) ≡ memoryPlaces → length (d .counts) ≡ memoryPlaces
+pub sound-view : (d : Drive) → length (d .lengths) ≡ memoryCount → length (d .entries) ≡ entrySize * memoryPlaces
+    → length (d .times) ≡ memoryPlaces
     → sound (view d) ≡ (leb (d .size) largestMedium
     && every (soundPartition (quarter (d .size))) (map partitionView (tablesIn partitionCount (d .tables))) && every entriesFit (d .lengths))
 unfolding sound view
-sound-view d five s h t n =
-    let long : length (entriesIn (d .slots) (d .holders) (d .times) (d .counts)) ≡ length (d .slots) =
-    entries-length (d .slots) (d .holders) (d .times) (d .counts) (h ∙ sym s) (t ∙ sym s) (n ∙ sym s) in
-    rw (memories-short (d .lengths) (entriesIn (d .slots) (d .holders) (d .times) (d .counts)) (omega arith)) refl
+sound-view d five es ts =
+    let long : length (entriesIn (d .entries) (d .times)) ≡ length (d .times) =
+    entries-length (d .entries) (d .times) (omega arith) in
+    rw (memories-short (d .lengths) (entriesIn (d .entries) (d .times)) (omega arith)) refl

@@ -92,7 +92,7 @@ pub record Opened : Type 0 where
   pub parsed : ParsedTo frame cred request
   pub placed : memory ≡ memoryIndex cred
   pub found : replayed ≡ some? (sameEntry (entry cred (numbersOf request)))
-      (getD (memoriesOf (fresh .lengths) (fresh .slots) (fresh .holders) (fresh .times) (fresh .counts)) memory [])
+      (getD (memoriesOf (fresh .lengths) (fresh .entries) (fresh .times)) memory [])
 
 module _ (o : Opened) where
   abbrev d : Drive
@@ -139,7 +139,7 @@ module _ (o : Opened) where
       omega (arith, width-is)
 
   abbrev all-memories : List (List Entry)
-  all-memories = memoriesOf (d .lengths) (d .slots) (d .holders) (d .times) (d .counts)
+  all-memories = memoriesOf (d .lengths) (d .entries) (d .times)
 
   -- the entries of memory k
   abbrev pub mem : List Entry
@@ -150,7 +150,7 @@ module _ (o : Opened) where
       (ap objectsFit (sym part-is) ∙ every-nth objectsFit (tablesIn partitionCount (d .tables)) i [] refl (o .counted .objects))
 
   mem-long : getD (d .lengths) k 0 ≡ length mem
-  mem-long = held-long (d .lengths) (d .slots) (d .holders) (d .times) (d .counts) (o .counted .memories) k k-low
+  mem-long = held-long (d .lengths) (d .entries) (d .times) (o .counted .memories) k k-low
 
   -- ---- it is the frame's own scope of the drive
   own-partition : driveScope (view d) (x .cred) .partition ≡ partitionIn part
@@ -257,8 +257,8 @@ module _ (o : Opened) where
       module _ (ks u : List ℕ) (keyed : ks ≡ keysAfter (o .request .operation) (out .key) (o .cred .slot) (o .cred .partition)
           (x .request ++ x .payload) (d .keys))
           (became : HasContent part u (contentAfter (o .request .operation) (o .cred .object) (out .nextversion) (out .newstart) part))
-          (nonce : Entry) (is-nonce : nonce ≡ entry (o .cred) (numbersOf (o .request))) (ns s h t n : List ℕ)
-          (entered : memoriesOf ns s h t n ≡ update k (λ (old : List Entry). old ++ (nonce ∷ [])) all-memories) where
+          (nonce : Entry) (is-nonce : nonce ≡ entry (o .cred) (numbersOf (o .request))) (ns es ts : List ℕ)
+          (entered : memoriesOf ns es ts ≡ update k (λ (old : List Entry). old ++ (nonce ∷ [])) all-memories) where
         abbrev back : Drive
         back = record {
           size = d .size;
@@ -266,10 +266,8 @@ module _ (o : Opened) where
           keys = ks;
           tables = putMid (tableSize * i) width (d .tables) u;
           lengths = ns;
-          slots = s;
-          holders = h;
-          times = t;
-          counts = n;
+          entries = es;
+          times = ts;
         }
 
         c-is : o .cred ≡ x .cred
@@ -301,7 +299,7 @@ module _ (o : Opened) where
             ∙ ap (λ (j : ℕ). update j (λ (old : rules.Partition Object). a .drive .partition)
             (map partitionView (tablesIn partitionCount (d .tables)))) (partition-is (o .parsed))
 
-        memories-in : memoriesOf ns s h t n
+        memories-in : memoriesOf ns es ts
             ≡ update (memoryIndex (x .cred)) (λ (old : List Entry). a .drive .memory) all-memories
         memories-in = entered
             ∙ update-to k (λ (old : List Entry). old ++ (nonce ∷ [])) all-memories [] (a .drive .memory)

@@ -10,7 +10,7 @@ use Rattle.rules.specs.Gate.{Call}
 use Rattle.rules.specs.Ledger.{ledgerStart}
 use Rattle.keyring.specs.Keys.{keysSize, partitionCount}
 use Rattle.state.specs.Table.{tableSize}
-use Rattle.memory.specs.Memory.{memoryCount, memoryPlaces}
+use Rattle.memory.specs.Memory.{memoryCount, memoryPlaces, entrySize}
 use Rattle.drive.specs.declared.Drive.{Drive}
 use Rattle.drive.specs.declared.Answer.{Answer}
 use Rattle.drive.specs.declared.Formatted.{Formatted}
@@ -19,18 +19,16 @@ use Rattle.drive.specs.Chain.{CallMade, Demand1, Demand3, DriveState}
 use Rattle.drive.specs.ChainStory.{Story}
 
 -- ---- parts
--- the record that parts make: M, the mark, keys, tables, and the memories' lengths, slots, holders, times and counts
-abbrev pub recordOf : ℕ → ℕ → List ℕ → List ℕ → List ℕ → List ℕ → List ℕ → List ℕ → List ℕ → Drive
-recordOf size mark keys tables lengths slots holders times counts = record {
+-- the record that parts make: M, the mark, keys, tables, and the memories' lengths, entries and times
+abbrev pub recordOf : ℕ → ℕ → List ℕ → List ℕ → List ℕ → List ℕ → List ℕ → Drive
+recordOf size mark keys tables lengths entries times = record {
   size = size;
   highwater = mark;
   keys = keys;
   tables = tables;
   lengths = lengths;
-  slots = slots;
-  holders = holders;
+  entries = entries;
   times = times;
-  counts = counts;
 }
 
 -- the gate's answer and format's, of their numbers and a record
@@ -41,14 +39,12 @@ abbrev pub formattedWith : ℕ → Drive → Formatted
 formattedWith row d = record { row = row; drive = d }
 
 -- parts as long as a record's
-pub record PartsFit (ks ts ns s h t n : List ℕ) : Type 0 where
+pub record PartsFit (ks ps ns es ts : List ℕ) : Type 0 where
   pub keys : length ks ≡ keysSize
-  pub tables : length ts ≡ partitionCount * tableSize
+  pub tables : length ps ≡ partitionCount * tableSize
   pub lengths : length ns ≡ memoryCount
-  pub slots : length s ≡ memoryPlaces
-  pub holders : length h ≡ memoryPlaces
-  pub times : length t ≡ memoryPlaces
-  pub counts : length n ≡ memoryPlaces
+  pub entries : length es ≡ entrySize * memoryPlaces
+  pub times : length ts ≡ memoryPlaces
 
 -- ---- a list of lent calls
 -- one of them: what it brought (frame, clock reading, reply space), its row and reply length, and what it left of the record

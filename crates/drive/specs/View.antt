@@ -11,7 +11,7 @@ use Rattle.rules.specs.declared.Entry.{Entry}
 use Rattle.rules.specs.Drive as rules
 use Rattle.rules.specs.Drive.{mostObjects, mostEntries}
 use Rattle.keyring.specs.Keys.{partitionCount, keysSize, keysIn}
-use Rattle.memory.specs.Memory.{memoryCount, memoryPlaces, noEntry, entriesIn}
+use Rattle.memory.specs.Memory.{memoryCount, memoryPlaces, entrySize, noEntry, entriesIn}
 use Rattle.state.specs.Padded.{padded}
 use Rattle.state.specs.Table.{countAt, tableSize, partitionView}
 use Rattle.drive.specs.declared.Drive.{Drive}
@@ -25,15 +25,15 @@ tablesIn n l = chunks tableSize n l
 unfoldable pub memoriesIn : List ℕ → List Entry → List (List Entry)
 memoriesIn ns l = zipWith (padded mostEntries noEntry) ns (chunks mostEntries (length ns) l)
 
--- the memories of the five arrays of a drive: lengths, slots, holders, times, counts
-abbrev pub memoriesOf : List ℕ → List ℕ → List ℕ → List ℕ → List ℕ → List (List Entry)
-memoriesOf ns s h t n = memoriesIn ns (entriesIn s h t n)
+-- the memories of a drive's three arrays: their lengths, the entries' numbers and the entries' times
+abbrev pub memoriesOf : List ℕ → List ℕ → List ℕ → List (List Entry)
+memoriesOf ns es ts = memoriesIn ns (entriesIn es ts)
 
 unfoldable pub view : Drive → rules.Drive
 view d = record {
   size = d .size;
   tables = record { highWater = d .highwater; keys = keysIn (d .keys); partitions = map partitionView (tablesIn partitionCount (d .tables)) };
-  memories = memoriesOf (d .lengths) (d .slots) (d .holders) (d .times) (d .counts);
+  memories = memoriesOf (d .lengths) (d .entries) (d .times);
 }
 
 -- ---- a record of which no count passes its array, as every sound one is
@@ -43,17 +43,15 @@ objectsFit t = leb (getD t countAt 0) mostObjects
 abbrev pub entriesFit : ℕ → Bool
 entriesFit n = leb n mostEntries
 
--- five lengths (ns), none over 64, and as many slots, holders, times and counts as five memories have places
-pub record MemoriesFit (ns s h t n : List ℕ) : Type 0 where
+-- five lengths (ns), none over 64, and the numbers and times of as many entries as five memories have places
+pub record MemoriesFit (ns es ts : List ℕ) : Type 0 where
   pub five : length ns ≡ memoryCount
-  pub entries : every entriesFit ns ≡ true
-  pub slots : length s ≡ memoryPlaces
-  pub holders : length h ≡ memoryPlaces
-  pub times : length t ≡ memoryPlaces
-  pub counts : length n ≡ memoryPlaces
+  pub short : every entriesFit ns ≡ true
+  pub entries : length es ≡ entrySize * memoryPlaces
+  pub times : length ts ≡ memoryPlaces
 
 pub record CountsFit (d : Drive) : Type 0 where
   pub keys : length (d .keys) ≡ keysSize
   pub tables : length (d .tables) ≡ partitionCount * tableSize
   pub objects : every objectsFit (tablesIn partitionCount (d .tables)) ≡ true
-  pub memories : MemoriesFit (d .lengths) (d .slots) (d .holders) (d .times) (d .counts)
+  pub memories : MemoriesFit (d .lengths) (d .entries) (d .times)

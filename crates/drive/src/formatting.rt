@@ -13,6 +13,7 @@ ghost use Rattle.drive.specs.View.{view, tablesIn};
 use super::Drive;
 use super::TABLES;
 use keyring::KEYS;
+use memory::ENTRIES;
 use memory::MEMORIES;
 use memory::PLACES;
 use rules::KEY_SIZE;
@@ -58,9 +59,7 @@ pub fn new_drive(size: usize, first: u32, keys: [u8; KEYS]) -> Drive
         keys,
         tables,
         lengths: [0; MEMORIES],
-        slots: [0; PLACES],
-        holders: [0; PLACES],
+        entries: [0; ENTRIES],
         times: [0; PLACES],
-        counts: [0; PLACES],
     }
 }

@@ -8,6 +8,7 @@ use super::replay;
 use super::row1;
 use judge::ScopeFacts;
 use keyring::KEYS;
+use memory::ENTRIES;
 use memory::MEMORIES;
 use memory::PLACES;
 use state::TABLE;
@@ -26,20 +27,18 @@ fn put_frame(
     keys: &mut [u8],
     tables: &mut [u32],
     lengths: &mut [usize],
-    slots: &mut [u8],
-    holders: &mut [u32],
+    entries: &mut [u32],
     times: &mut [u64],
-    counts: &mut [u32],
     medium: &mut [u8],
     frame: &[u8],
     clock: u64,
     reply: &mut [u8],
 ) -> Verdict
-    requires { ⌜ PartsFit (now keys) (now tables) (now lengths) (now slots) (now holders) (now times) (now counts) ⌝ }
+    requires { ⌜ PartsFit (now keys) (now tables) (now lengths) (now entries) (now times) ⌝ }
     ensures { λ r. ⌜ GateMet
-        (recordOf size (now (highwater .entry)) (now (keys .entry)) (now (tables .entry)) (now (lengths .entry)) (now (slots .entry)) (now (holders .entry)) (now (times .entry)) (now (counts .entry)))
+        (recordOf size (now (highwater .entry)) (now (keys .entry)) (now (tables .entry)) (now (lengths .entry)) (now (entries .entry)) (now (times .entry)))
         (now (medium .entry)) (callOf (now (frame .entry)) clock (now (reply .entry)))
-        (answerWith (r .row) (r .length) (recordOf size (now (highwater .exit)) (now (keys .exit)) (now (tables .exit)) (now (lengths .exit)) (now (slots .exit)) (now (holders .exit)) (now (times .exit)) (now (counts .exit))))
+        (answerWith (r .row) (r .length) (recordOf size (now (highwater .exit)) (now (keys .exit)) (now (tables .exit)) (now (lengths .exit)) (now (entries .exit)) (now (times .exit))))
         (now (medium .exit)) (now (reply .exit)) ⌝ }
 {
     if !row1::passes_row1(size, tables, lengths, medium.len()) {
@@ -47,7 +46,7 @@ fn put_frame(
     }
     let mark = row1::later(*highwater, clock);
     *highwater = mark;
-    replay::drop_outlived(lengths, slots, holders, times, counts, mark);
+    replay::drop_outlived(lengths, entries, times, mark);
     let parsed = wire::parse(frame);
     let Parsed::Fields(c, request) = parsed else {
         let row = wire::row_of(parsed);
@@ -55,7 +54,7 @@ fn put_frame(
     };
     let k = admission::memory_of(c);
     let nonce = judge::entry_of(c, request);
-    let replayed = replay::is_replayed(lengths, slots, holders, times, counts, k, nonce);
+    let replayed = replay::is_replayed(lengths, entries, times, k, nonce);
     let held = lengths[k];
     let facts = ScopeFacts {
         size,
@@ -89,7 +88,7 @@ fn put_frame(
         out.nextversion,
         out.newstart,
     );
-    replay::enter(lengths, slots, holders, times, counts, k, nonce);
+    replay::enter(lengths, entries, times, k, nonce);
     Verdict { row, length }
 }
 
@@ -100,19 +99,17 @@ pub fn gate(
     keys: &mut [u8; KEYS],
     tables: &mut [u32; TABLES],
     lengths: &mut [usize; MEMORIES],
-    slots: &mut [u8; PLACES],
-    holders: &mut [u32; PLACES],
+    entries: &mut [u32; ENTRIES],
     times: &mut [u64; PLACES],
-    counts: &mut [u32; PLACES],
     medium: &mut [u8],
     frame: &[u8],
     clock: u64,
     reply: &mut [u8],
 ) -> Verdict
     ensures { λ r. ⌜ GateMet
-        (recordOf size (now (highwater .entry)) (now (keys .entry)) (now (tables .entry)) (now (lengths .entry)) (now (slots .entry)) (now (holders .entry)) (now (times .entry)) (now (counts .entry)))
+        (recordOf size (now (highwater .entry)) (now (keys .entry)) (now (tables .entry)) (now (lengths .entry)) (now (entries .entry)) (now (times .entry)))
         (now (medium .entry)) (callOf (now (frame .entry)) clock (now (reply .entry)))
-        (answerWith (r .row) (r .length) (recordOf size (now (highwater .exit)) (now (keys .exit)) (now (tables .exit)) (now (lengths .exit)) (now (slots .exit)) (now (holders .exit)) (now (times .exit)) (now (counts .exit))))
+        (answerWith (r .row) (r .length) (recordOf size (now (highwater .exit)) (now (keys .exit)) (now (tables .exit)) (now (lengths .exit)) (now (entries .exit)) (now (times .exit))))
         (now (medium .exit)) (now (reply .exit)) ⌝ }
 {
     put_frame(
@@ -121,10 +118,8 @@ pub fn gate(
         keys,
         tables,
         lengths,
-        slots,
-        holders,
+        entries,
         times,
-        counts,
         medium,
         frame,
         clock,

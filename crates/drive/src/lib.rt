@@ -3,6 +3,7 @@ ghost use mathlib.Core.Path.{_≡_};
 ghost use Rattle.drive.specs.Met.{callOf, FormatMet, GateMet};
 use keyring::KEYS;
 use keyring::PARTITIONS;
+use memory::ENTRIES;
 use memory::MEMORIES;
 use memory::PLACES;
 use state::TABLE;
@@ -19,18 +20,16 @@ pub const TABLES: usize = PARTITIONS * TABLE;
 // Plain data, passed by value and returned. Nothing is asked of a record passed in: row 1 refuses one that is not sound.
 // `size` is the medium's length M, `highwater` document 01's mark. Everything else is in arrays of numbers, which can be lent:
 // the keys as `keyring` has them; the partitions' tables, one after the other, as `state` has them; and the five replay
-// memories (0 to 3 are the partitions', 4 is that of slots 3 and 4): memory m has lengths[m] entries, in order of grant, their
-// numbers from place 64 × m on in the four arrays.
+// memories (0 to 3 are the partitions', 4 is that of slots 3 and 4): memory m has lengths[m] entries, in order of grant, from
+// place 64 × m on, as `memory` has them: their numbers in `entries`, their times in `times`.
 pub struct Drive {
     pub size: usize,
     pub highwater: u64,
     pub keys: [u8; KEYS],
     pub tables: [u32; TABLES],
     pub lengths: [usize; MEMORIES],
-    pub slots: [u8; PLACES],
-    pub holders: [u32; PLACES],
+    pub entries: [u32; ENTRIES],
     pub times: [u64; PLACES],
-    pub counts: [u32; PLACES],
 }
 
 // Row 0 and the reply's length, or the row and 0; and the drive after the call.
@@ -83,20 +82,16 @@ pub fn gate(drive: Drive, medium: &mut [u8], frame: &[u8], clock: u64, reply: &m
     let mut keys = drive.keys;
     let mut tables = drive.tables;
     let mut lengths = drive.lengths;
-    let mut slots = drive.slots;
-    let mut holders = drive.holders;
+    let mut entries = drive.entries;
     let mut times = drive.times;
-    let mut counts = drive.counts;
     let v = lent::gate(
         size,
         &mut highwater,
         &mut keys,
         &mut tables,
         &mut lengths,
-        &mut slots,
-        &mut holders,
+        &mut entries,
         &mut times,
-        &mut counts,
         medium,
         frame,
         clock,
@@ -111,10 +106,8 @@ pub fn gate(drive: Drive, medium: &mut [u8], frame: &[u8], clock: u64, reply: &m
             keys,
             tables,
             lengths,
-            slots,
-            holders,
+            entries,
             times,
-            counts,
         },
     }
 }

@@ -40,7 +40,7 @@ pub fn entry_of(c: Credential, request: ParsedRequest) -> Entry
     ensures { λ e. ⌜ e ≡ entry c (numbersOf request) ⌝ }
 {
     Entry {
-        slot: c.slot,
+        slot: c.slot as u32,
         holder: c.holder,
         time: request.time,
         count: request.count,

@@ -1,9 +1,9 @@
--- A list as n chunks of one size, which stand one after the other: how many, the i-th, another chunk in its place, and a
--- store or another front in a chunk.
+-- A list as n chunks of one size, which stand one after the other: how many, the i-th, the first k and those behind them, two
+-- lists of chunks one behind the other, another chunk in its place, and a store or another front in a chunk.
 use mathlib.Core.Path.{_≡_, refl, sym, ap, _∙_}
 use mathlib.Core.List.{List, [], _∷_, _++_, append-assoc}
 use Prim.Native.Nat.{ℕ, zero, suc, _+_, _-_, _*_, _≤_, _<_}
-use native.Mathlib.Nat.{not-suc-le-zero, le-of-suc-le-suc, mul-le-mul-left}
+use native.Mathlib.Nat.{not-suc-le-zero, le-of-suc-le-suc, mul-le-mul-left, zero-add, suc-add}
 use native.Mathlib.Omega.{arith}
 use lib.ListN.{length, getD, take, drop, set, length-drop, length-set, take-append-drop}
 use lib.Seq.{
@@ -14,11 +14,21 @@ use lib.Seq.{
   drop-set-lt,
   length-take-le,
   take-add,
+  take-append-le,
   take-at,
+  take-nil,
   take-set-le,
   take-set-lt,
+  take-take,
 }
 use Rattle.lemmas.specs.Fronts.{withFront, front-length}
+
+module _ {A : Type 0} where
+  -- the first n + m without the first n
+  drop-take : (n m : ℕ) (l : List A) → drop n (take (n + m) l) ≡ take m (drop n l)
+  drop-take zero m l = ap (λ (k : ℕ). take k l) (zero-add m)
+  drop-take (suc n) m [] = ap (λ (k : ℕ). drop (suc n) (take k [])) (suc-add n m) ∙ sym (take-nil m)
+  drop-take (suc n) m (x ∷ l) = ap (λ (k : ℕ). drop (suc n) (take k (x ∷ l))) (suc-add n m) ∙ drop-take n m l
 
 module _ {A : Type 0} (size : ℕ) where
   unfoldable pub chunks : ℕ → List A → List (List A)
@@ -45,6 +55,37 @@ module _ {A : Type 0} (size : ℕ) where
       let e : size + size * i ≡ size * suc i = omega arith in
       chunks-at n i (drop size l) (le-of-suc-le-suc h) ∙ ap (take size) (drop-drop (size * i) size l)
       ∙ ap (λ (a : ℕ). chunkAt a l) e
+
+  pub chunks-take : (k n : ℕ) (l : List A) → k ≤ n → chunks k (take (size * k) l) ≡ take k (chunks n l)
+  unfolding chunks
+  chunks-take zero n l h = refl
+  chunks-take (suc k) zero l h = absurd (not-suc-le-zero h)
+  chunks-take (suc k) (suc n) l h =
+      let e : size * suc k ≡ size + size * k = omega arith in
+      ap (λ (a : ℕ). chunks (suc k) (take a l)) e
+      ∙ (λ j. take-take size (size + size * k) l (omega arith) j ∷ chunks k (drop-take size (size * k) l j))
+      ∙ ap (λ (x : List (List A)). take size l ∷ x) (chunks-take k n (drop size l) (le-of-suc-le-suc h))
+
+  pub chunks-drop : (k n : ℕ) (l : List A) → chunks n (drop (size * k) l) ≡ drop k (chunks (k + n) l)
+  unfolding chunks
+  chunks-drop zero n l =
+      let e : size * zero ≡ 0 = omega arith in
+      ap (λ (a : ℕ). chunks n (drop a l)) e ∙ ap (λ (m : ℕ). chunks m l) (sym (zero-add n))
+  chunks-drop (suc k) n l =
+      let e : size * suc k ≡ size + size * k = omega arith in
+      ap (λ (a : ℕ). chunks n (drop a l)) e ∙ ap (chunks n) (sym (drop-drop (size * k) size l))
+      ∙ chunks-drop k n (drop size l) ∙ ap (λ (m : ℕ). drop (suc k) (chunks m l)) (sym (suc-add k n))
+
+  pub chunks-append : (n m : ℕ) (l r : List A) → length l ≡ size * n → chunks (n + m) (l ++ r) ≡ chunks n l ++ chunks m r
+  unfolding chunks
+  chunks-append zero m [] r e = ap (λ (k : ℕ). chunks k r) (zero-add m)
+  chunks-append zero m (x ∷ l) r e = absurd (omega arith)
+  chunks-append (suc n) m l r e =
+      let first : size ≤ length l = omega arith in
+      let rest : length (drop size l) ≡ size * n = length-drop size l ∙ omega arith in
+      ap (λ (k : ℕ). chunks k (l ++ r)) (suc-add n m)
+      ∙ (λ j. take-append-le size l r first j ∷ chunks (n + m) (drop-append-le size l r first j))
+      ∙ ap (λ (x : List (List A)). take size l ∷ x) (chunks-append n m (drop size l) r rest)
 
   pub chunks-put : (n i : ℕ) (l u : List A) → i < n → size * n ≤ length l → length u ≡ size
       → chunks n (chunkPut (size * i) l u) ≡ set (chunks n l) i u

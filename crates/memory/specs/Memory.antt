@@ -1,14 +1,16 @@
 -- Document 01, "Drive state", nonce memories: a memory of the record as the rules see it. mark: the drive's time.
+-- es: the numbers of a memory's entries. ts: their times.
 use mathlib.Core.Path.{_≡_}
 use mathlib.Core.Bool.{true, false, not}
-use mathlib.Core.List.{List, zipWith}
-use Prim.Native.Nat.{ℕ, _+_, _-_, _*_, _<_, _≤_, min}
+use mathlib.Core.List.{List, [], _∷_, zipWith}
+use Prim.Native.Nat.{ℕ, _+_, _-_, _*_, _/_, _<_, _≤_, min}
 use native.Mathlib.Omega.{arith}
 use native.Mathlib.Decide.{decLt}
 use lib.Dec.{ltb}
-use lib.ListN.{length, take, drop}
+use lib.ListN.{length, getD, take, drop, set}
 use borrow.Author.Tests.{le-leb, lt-leb, lt-ltb, le-ltb}
-use Rattle.lemmas.specs.Lists.{keep}
+use Rattle.lemmas.specs.Lists.{keep, splice}
+use Rattle.lemmas.specs.Chunks.{chunks}
 use Rattle.rules.specs.declared.Entry.{Entry}
 use Rattle.rules.specs.Drive.{mostEntries, timeWindow, lives}
 
@@ -19,35 +21,40 @@ memoryCount = 5
 abbrev pub memoryPlaces : ℕ
 memoryPlaces = memoryCount * mostEntries
 
--- ---- an entry of its numbers, and the one of zeros
-abbrev pub entryOf : ℕ → ℕ → ℕ → ℕ → Entry
-entryOf slot holder time count = record { slot = slot; holder = holder; time = time; count = count }
+-- ---- an entry's numbers, all but its time, in the order in which they stand one behind the other; and how many
+abbrev pub numbersOf : Entry → List ℕ
+numbersOf e = e .slot ∷ e .holder ∷ e .count ∷ []
+
+abbrev pub entrySize : ℕ
+entrySize = 3
+
+-- an entry of its numbers and its time
+abbrev pub entryOf : List ℕ → ℕ → Entry
+entryOf l time = record { slot = getD l 0 0; holder = getD l 1 0; time = time; count = getD l 2 0 }
 
 abbrev pub noEntry : Entry
-noEntry = entryOf 0 0 0 0
+noEntry = entryOf [] 0
 
--- functions that each still want one number, given the numbers of a list
-abbrev pub given : {B : Type 0} → List (ℕ → B) → List ℕ → List B
-given fs xs = zipWith (λ f x. f x) fs xs
+-- "a memory holds, in order of grant, exactly its entries": as many as both rows have whole
+unfoldable pub entriesIn : List ℕ → List ℕ → List Entry
+entriesIn es ts = zipWith entryOf (chunks entrySize (length es / entrySize) es) ts
 
--- "a memory holds, in order of grant, exactly its entries": slots, holders, times and counts, one number of each entry
--- in each, as many entries as the shortest of the four has numbers
-unfoldable pub entriesIn : List ℕ → List ℕ → List ℕ → List ℕ → List Entry
-entriesIn s h t n = given (given (zipWith entryOf s h) t) n
+-- how many that are, of a row of n numbers and one of m times
+abbrev pub wholeEntries : ℕ → ℕ → ℕ
+wholeEntries n m = min (n / entrySize) m
 
--- the smallest of four: how many entries four lists of these lengths make
-abbrev pub fewest : ℕ → ℕ → ℕ → ℕ → ℕ
-fewest a b c d = min (min a b) (min c d)
+-- ---- what a purge at a mark makes of the rows es, ts: fs, us, whose first r entries are those that live, in their order;
+-- from place r on each row is as it was
+pub record Purged (mark : ℕ) (es ts fs us : List ℕ) (r : ℕ) : Type 0 where
+  pub count : r ≡ length (keep (lives mark) (entriesIn es ts))
+  pub front : take r (entriesIn fs us) ≡ keep (lives mark) (entriesIn es ts)
+  pub entries : drop (entrySize * r) fs ≡ drop (entrySize * r) es
+  pub times : drop r us ≡ drop r ts
 
--- what a purge at a mark makes of the four lists s, h, t, n: a, b, c, d, whose first r entries are those that live, in their
--- order; from place r on each list is as it was
-pub record Purged (mark : ℕ) (s h t n a b c d : List ℕ) (r : ℕ) : Type 0 where
-  pub count : r ≡ length (keep (lives mark) (entriesIn s h t n))
-  pub front : take r (entriesIn a b c d) ≡ keep (lives mark) (entriesIn s h t n)
-  pub slots : drop r a ≡ drop r s
-  pub holders : drop r b ≡ drop r h
-  pub times : drop r c ≡ drop r t
-  pub counts : drop r d ≡ drop r n
+-- ---- what entering e at place i makes of them: it stands there, and where there is no such place nothing changes
+pub record Entered (es ts : List ℕ) (i : ℕ) (e : Entry) (fs us : List ℕ) : Type 0 where
+  pub placed : i < length (entriesIn es ts) → (fs ≡ splice es (entrySize * i) (numbersOf e)) × (us ≡ set ts i (e .time))
+  pub nowhere : length (entriesIn es ts) ≤ i → (fs ≡ es) × (us ≡ ts)
 
 -- ---- laws: the test as the code makes it
 pub lives-yes : (mark : ℕ) (e : Entry) → mark - timeWindow ≤ e .time → lives mark e ≡ true

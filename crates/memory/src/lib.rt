@@ -1,14 +1,14 @@
-// A replay memory (document 01's nonce memory): four lent slices, slots, holders, times and counts, with one number of
-// each entry in each. Everything is total: where the slices differ in length, there are as many entries as the shortest
-// has numbers.
+// A replay memory (document 01's nonce memory) in two lent slices: `entries` has the numbers of its entries, ENTRY for each, one
+// behind the other; `times` has their times, in a row of their own, so that a pass over all of them is quick. Everything is
+// total: there are as many entries as both slices have whole.
 ghost use mathlib.Core.Path.{_≡_};
 ghost use mathlib.Core.Bool.{true, false};
-ghost use Prim.Native.Nat.{ℕ, _-_, _≤_};
+ghost use Prim.Native.Nat.{ℕ, _+_, _-_, _*_, _≤_, _<_};
 ghost use lib.Dec.{ltb};
-ghost use lib.ListN.{length, take};
-ghost use Rattle.lemmas.specs.Lists.{some?};
+ghost use lib.ListN.{length, getD, take, set};
+ghost use Rattle.lemmas.specs.Lists.{some?, splice};
 ghost use Rattle.rules.specs.Drive.{timeWindow, sameEntry};
-ghost use Rattle.memory.specs.Memory.{entriesIn, fewest, Purged};
+ghost use Rattle.memory.specs.Memory.{entrySize, numbersOf, noEntry, entriesIn, wholeEntries, Purged, Entered};
 use lemmas::smaller;
 use rules::Entry;
 use rules::MOST_ENTRIES;
@@ -19,11 +19,43 @@ pub const MEMORIES: usize = 5;
 
 pub const PLACES: usize = MEMORIES * MOST_ENTRIES;
 
-// How many entries there are: the shortest of four lengths.
-fn shortest(a: usize, b: usize, c: usize, d: usize) -> usize
-    ensures { λ r. ⌜ r ≡ fewest a b c d ⌝ }
+// How many numbers an entry has beside its time: slot, holder, count. And how many all places together.
+pub const ENTRY: usize = 3;
+
+pub const ENTRIES: usize = PLACES * ENTRY;
+
+// How many entries there are, of so many numbers and so many times.
+fn whole_entries(numbers: usize, times: usize) -> usize
+    ensures { λ r. ⌜ r ≡ wholeEntries numbers times ⌝ }
 {
-    smaller(smaller(a, b), smaller(c, d))
+    smaller(numbers / ENTRY, times)
+}
+
+// The entry at place i.
+fn entry_at(entries: &[u32], times: &[u64], i: usize) -> Entry
+    requires { ⌜ (entrySize * i + entrySize ≤ length (now entries)) × (i < length (now times)) ⌝ }
+    ensures { λ r. ⌜ r ≡ getD (entriesIn (now (entries .entry)) (now (times .entry))) i noEntry ⌝ }
+{
+    let at = ENTRY * i;
+    Entry {
+        slot: entries[at],
+        holder: entries[at + 1],
+        time: times[i],
+        count: entries[at + 2],
+    }
+}
+
+// Puts an entry at place i.
+fn put_entry(entries: &mut [u32], times: &mut [u64], i: usize, e: Entry)
+    requires { ⌜ (entrySize * i + entrySize ≤ length (now entries)) × (i < length (now times)) ⌝ }
+    ensures { λ r. ⌜ (now (entries .exit) ≡ splice (now (entries .entry)) (entrySize * i) (numbersOf e))
+        × (now (times .exit) ≡ set (now (times .entry)) i (e .time)) ⌝ }
+{
+    let at = ENTRY * i;
+    entries[at] = e.slot;
+    entries[at + 1] = e.holder;
+    entries[at + 2] = e.count;
+    times[i] = e.time;
 }
 
 // The lowest time that is not outlived at a mark; T + 5,000 could pass 64 bits.
@@ -80,32 +112,18 @@ fn stale(times: &[u64], n: usize, mark: u64) -> bool
 }
 
 // Moves each of the n entries that live to the front, in their order, and counts them. The places behind them stay.
-fn compact(
-    slots: &mut [u8],
-    holders: &mut [u32],
-    times: &mut [u64],
-    counts: &mut [u32],
-    n: usize,
-    mark: u64,
-) -> usize
-    requires { ⌜ n ≡ fewest (length (now slots)) (length (now holders)) (length (now times)) (length (now counts)) ⌝ }
-    ensures { λ r. ⌜ Purged mark (now (slots .entry)) (now (holders .entry)) (now (times .entry)) (now (counts .entry))
-        (now (slots .exit)) (now (holders .exit)) (now (times .exit)) (now (counts .exit)) r ⌝ }
+fn compact(entries: &mut [u32], times: &mut [u64], n: usize, mark: u64) -> usize
+    requires { ⌜ n ≡ wholeEntries (length (now entries)) (length (now times)) ⌝ }
+    ensures { λ r. ⌜ Purged mark (now (entries .entry)) (now (times .entry)) (now (entries .exit)) (now (times .exit)) r ⌝ }
 {
     let floor = floor_of(mark);
     let mut k = 0;
     let mut i = 0;
     while i < n {
-        let slot = slots[i];
-        let holder = holders[i];
-        let time = times[i];
-        let count = counts[i];
+        let e = entry_at(&*entries, &*times, i);
         i += 1;
-        if floor <= time {
-            slots[k] = slot;
-            holders[k] = holder;
-            times[k] = time;
-            counts[k] = count;
+        if floor <= e.time {
+            put_entry(entries, times, k, e);
             k += 1;
         }
     }
@@ -114,21 +132,14 @@ fn compact(
 
 // Drops the outlived entries: those that live are at the front afterwards, in their order, and are counted. Where none is
 // outlived nothing is written.
-pub fn purge(
-    slots: &mut [u8],
-    holders: &mut [u32],
-    times: &mut [u64],
-    counts: &mut [u32],
-    mark: u64,
-) -> usize
-    ensures { λ r. ⌜ Purged mark (now (slots .entry)) (now (holders .entry)) (now (times .entry)) (now (counts .entry))
-        (now (slots .exit)) (now (holders .exit)) (now (times .exit)) (now (counts .exit)) r ⌝ }
+pub fn purge(entries: &mut [u32], times: &mut [u64], mark: u64) -> usize
+    ensures { λ r. ⌜ Purged mark (now (entries .entry)) (now (times .entry)) (now (entries .exit)) (now (times .exit)) r ⌝ }
 {
-    let n = shortest(slots.len(), holders.len(), times.len(), counts.len());
+    let n = whole_entries(entries.len(), times.len());
     if !stale(&*times, n, mark) {
         return n;
     }
-    compact(slots, holders, times, counts, n, mark)
+    compact(entries, times, n, mark)
 }
 
 // Whether two entries are the same nonce.
@@ -139,22 +150,26 @@ fn same_entry(a: Entry, b: Entry) -> bool
 }
 
 // Whether a memory holds the nonce of an entry.
-pub fn holds(slots: &[u8], holders: &[u32], times: &[u64], counts: &[u32], e: Entry) -> bool
-    ensures { λ r. ⌜ r ≡ some? (sameEntry e)
-        (entriesIn (now (slots .entry)) (now (holders .entry)) (now (times .entry)) (now (counts .entry))) ⌝ }
+pub fn holds(entries: &[u32], times: &[u64], e: Entry) -> bool
+    ensures { λ r. ⌜ r ≡ some? (sameEntry e) (entriesIn (now (entries .entry)) (now (times .entry))) ⌝ }
 {
-    let n = shortest(slots.len(), holders.len(), times.len(), counts.len());
+    let n = whole_entries(entries.len(), times.len());
     let mut r = false;
     let mut at = 0;
     while at < n {
-        let x = Entry {
-            slot: slots[at],
-            holder: holders[at],
-            time: times[at],
-            count: counts[at],
-        };
+        let x = entry_at(entries, times, at);
         r = r | same_entry(e, x);
         at += 1;
     }
     r
+}
+
+// Enters an entry at a place; where there is no such place nothing is written.
+pub fn enter(entries: &mut [u32], times: &mut [u64], at: usize, e: Entry)
+    ensures { λ r. ⌜ Entered (now (entries .entry)) (now (times .entry)) at e (now (entries .exit)) (now (times .exit)) ⌝ }
+{
+    let n = whole_entries(entries.len(), times.len());
+    if at < n {
+        put_entry(entries, times, at, e);
+    }
 }

@@ -67,7 +67,7 @@ pub struct Object {
 
 // An entry of a replay memory ("nonce memory" in document 01).
 pub struct Entry {
-    pub slot: u8,
+    pub slot: u32,
     pub holder: u32,
     pub time: u64,
     pub count: u32,

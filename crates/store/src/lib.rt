@@ -9,6 +9,7 @@ ghost use Rattle.client.specs.Met.{IssueMet};
 ghost use Rattle.store.specs.Exported.{issuedWith, digestWith};
 use drive::TABLES;
 use keyring::KEYS;
+use memory::ENTRIES;
 use memory::MEMORIES;
 use memory::PLACES;
 use records::CredentialFields;
@@ -44,17 +45,15 @@ pub extern "C" fn sievelast_format_parts(
     keys: &mut [u8; KEYS],
     tables: &mut [u32; TABLES],
     lengths: &mut [usize; MEMORIES],
-    slots: &mut [u8; PLACES],
-    holders: &mut [u32; PLACES],
+    entries: &mut [u32; ENTRIES],
     times: &mut [u64; PLACES],
-    counts: &mut [u32; PLACES],
     medium: &mut [u8],
     first: u32,
     master: &[u8],
     key: &[u8],
 ) -> u64
     ensures { λ r. ⌜ FormatMet (now (medium .entry)) first (now (master .entry)) (now (key .entry))
-        (formattedWith r (recordOf (now (size .exit)) (now (highwater .exit)) (now (keys .exit)) (now (tables .exit)) (now (lengths .exit)) (now (slots .exit)) (now (holders .exit)) (now (times .exit)) (now (counts .exit)))) (now (medium .exit)) ⌝ }
+        (formattedWith r (recordOf (now (size .exit)) (now (highwater .exit)) (now (keys .exit)) (now (tables .exit)) (now (lengths .exit)) (now (entries .exit)) (now (times .exit)))) (now (medium .exit)) ⌝ }
 {
     let f = drive::format(medium, first, master, key);
     let d = f.drive;
@@ -66,14 +65,10 @@ pub extern "C" fn sievelast_format_parts(
     *tables = t;
     let l = d.lengths;
     *lengths = l;
-    let s = d.slots;
-    *slots = s;
-    let h = d.holders;
-    *holders = h;
-    let e = d.times;
-    *times = e;
-    let c = d.counts;
-    *counts = c;
+    let e = d.entries;
+    *entries = e;
+    let at = d.times;
+    *times = at;
     f.row as u64
 }
 
@@ -85,18 +80,16 @@ pub extern "C" fn sievelast_gate_parts(
     keys: &mut [u8; KEYS],
     tables: &mut [u32; TABLES],
     lengths: &mut [usize; MEMORIES],
-    slots: &mut [u8; PLACES],
-    holders: &mut [u32; PLACES],
+    entries: &mut [u32; ENTRIES],
     times: &mut [u64; PLACES],
-    counts: &mut [u32; PLACES],
     medium: &mut [u8],
     frame: &[u8],
     clock: u64,
     reply: &mut [u8],
 ) -> FrameAnswered
-    ensures { λ r. ⌜ GateMet (recordOf size (now (highwater .entry)) (now (keys .entry)) (now (tables .entry)) (now (lengths .entry)) (now (slots .entry)) (now (holders .entry)) (now (times .entry)) (now (counts .entry)))
+    ensures { λ r. ⌜ GateMet (recordOf size (now (highwater .entry)) (now (keys .entry)) (now (tables .entry)) (now (lengths .entry)) (now (entries .entry)) (now (times .entry)))
         (now (medium .entry)) (callOf (now (frame .entry)) clock (now (reply .entry)))
-        (answerWith (r .row) (r .length) (recordOf size (now (highwater .exit)) (now (keys .exit)) (now (tables .exit)) (now (lengths .exit)) (now (slots .exit)) (now (holders .exit)) (now (times .exit)) (now (counts .exit))))
+        (answerWith (r .row) (r .length) (recordOf size (now (highwater .exit)) (now (keys .exit)) (now (tables .exit)) (now (lengths .exit)) (now (entries .exit)) (now (times .exit))))
         (now (medium .exit)) (now (reply .exit)) ⌝ }
 {
     let v = drive::lent::gate(
@@ -105,10 +98,8 @@ pub extern "C" fn sievelast_gate_parts(
         keys,
         tables,
         lengths,
-        slots,
-        holders,
+        entries,
         times,
-        counts,
         medium,
         frame,
         clock,

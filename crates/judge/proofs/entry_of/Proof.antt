@@ -1,6 +1,7 @@
 use mathlib.Core.Path.{refl}
 use Rattle.rules.specs.Frame.{entry}
 use Rattle.wire.specs.Parse.{numbersOf}
+use borrow.Author.Needs.{needs}
 use Rattle.judge.proofs.entry_of.Statement.{statement}
 use Rattle.judge.proofs.entry_of.Tie as tie
 
@@ -12,4 +13,4 @@ pub entry-of-spec : {M : Type 1} → statement M
 entry-of-spec =
     tie.close
     (tie.spec
-    returns)
+    (λ c. search needs) returns)

@@ -9,16 +9,15 @@ use Rattle.lemmas.specs.Lists.{some?}
 use Rattle.lemmas.specs.Loops.{some-take}
 use Rattle.rules.specs.Drive.{sameEntry}
 use Rattle.memory.specs.Memory.{entriesIn, noEntry}
-use Rattle.memory.specs.Entries.{entries-count, entries-at}
+use Rattle.memory.specs.Entries.{entries-count}
 use Rattle.memory.proofs.holds.Statement.{statement}
 use Rattle.memory.proofs.holds.Tie as tie
 
 abbrev Inv-loop : tie.InvT-loop
-Inv-loop slots holders times counts e n r₀ at₀ r at =
-    (at ≤ n) × (r ≡ some? (sameEntry e) (take at (entriesIn slots holders times counts)))
+Inv-loop entries times e n r₀ at₀ r at = (at ≤ n) × (r ≡ some? (sameEntry e) (take at (entriesIn entries times)))
 
 abbrev μ-loop : tie.MeasureT-loop
-μ-loop slots holders times counts e n r₀ at₀ r at = n - at
+μ-loop entries times e n r₀ at₀ r at = n - at
 
 loop-holds : tie.Need-loop-holds Inv-loop μ-loop
 unfolding some?
@@ -26,29 +25,26 @@ loop-holds c = search needs
 
 loop-again : tie.Need-loop-again Inv-loop μ-loop
 loop-again c =
-    let l = c .before .before .before .before .before .before .loop in
-    let a = c .before .before .before .before .before .before .before .before .before .before .before .before .args in
-    let s = a .slots .now in
-    let h = a .holders .now in
-    let t = a .times .now in
-    let n = a .counts .now in
-    let m : l .at < length (entriesIn s h t n) = omega (arith, entries-count s h t n) in (
+    let l = c .before .before .before .loop in
+    let a = c .before .before .before .before .before .before .before .args in
+    let es = a .entries .now in
+    let ts = a .times .now in
+    let m : l .at < length (entriesIn es ts) = omega (arith, entries-count es ts) in (
       search needs,
-      rw (some-take (sameEntry (a .e)) (entriesIn s h t n) (l .at) noEntry m, entries-at s h t n (l .at) m, l .inv .1, c .same-entry .ensures),
+      rw (some-take (sameEntry (a .e)) (entriesIn es ts) (l .at) noEntry m, l .inv .1, c .same-entry .ensures, c .before .entry-at .ensures),
     )
 
 returns : tie.Need-returns Inv-loop μ-loop
 returns c =
     let l = c .before .loop in
-    let a = c .before .before .before .before .before .before .before .args in
-    let E = entriesIn (a .slots .now) (a .holders .now) (a .times .now) (a .counts .now) in
-    let m : length E ≤ l .at = omega (arith, entries-count (a .slots .now) (a .holders .now) (a .times .now) (a .counts .now)) in
-    rw (take-all (l .at) E m) at (l .inv .1)
+    let a = c .before .before .before .before .before .args in
+    let all = entriesIn (a .entries .now) (a .times .now) in
+    let m : length all ≤ l .at = omega (arith, entries-count (a .entries .now) (a .times .now)) in
+    rw (take-all (l .at) all m) at (l .inv .1)
 
 pub holds-spec : {M : Type 1} → statement M
 holds-spec =
     tie.close
     (tie.spec
-    Inv-loop μ-loop (λ c κs. search needs) loop-holds (λ c. search needs) (λ c. search needs) (λ c. search needs)
-    (λ c. search needs) (λ c. search needs) (λ c. search needs) (λ c. search needs) (λ c κs. search needs)
+    Inv-loop μ-loop (λ c κs. search needs) loop-holds (λ c κs. search needs) (λ c κs. search needs)
     (λ c. search needs) (λ c. search needs) loop-again returns)

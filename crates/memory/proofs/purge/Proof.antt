@@ -8,17 +8,16 @@ use Rattle.memory.proofs.purge.Tie as tie
 
 returns : tie.Need-returns
 returns c =
-    let a = c .before .before .before .before .before .before .before .before .args in
-    let s = a .slots .now in
-    let h = a .holders .now in
-    let t = a .times .now in
-    let n = a .counts .now in
-    let k = c .before .before .before .shortest in
-    none-outlived s h t n (a .mark) (k .result) (k .ensures ∙ sym (entries-count s h t n)) (sym (c .before .stale .ensures) ∙ not-true (c .before .stale .result) (c .if1 .taken))
+    let k = c .before .before .before .whole-entries in
+    let a = c .before .before .before .before .before .before .args in
+    let es = a .entries .now in
+    let ts = a .times .now in
+    none-outlived es ts (a .mark) (k .result) (k .ensures ∙ sym (entries-count es ts))
+    (sym (c .before .stale .ensures) ∙ not-true (c .before .stale .result) (c .if1 .taken))
 
 pub purge-spec : {M : Type 1} → statement M
 purge-spec =
     tie.close
     (tie.spec
     (λ c κs. search needs) (λ c κs. search needs) (λ c. search needs) returns (λ c κs. search needs) (λ c. search needs)
-    (λ c. search needs) (λ c. search needs) (λ c. search needs) (λ c. search needs))
+    (λ c. search needs) (λ c. search needs))

@@ -36,16 +36,16 @@ use Rattle.drive.proofs.lent.put_frame.Tie as tie
 
 -- ---- the places, each by its neighbour
 abbrev at-start : tie.After-passes-row1 → tie.Start
-at-start t = t .before .before .before .before .before .before .before .before .before .before .before .before .before
+at-start t = t .before .before .before .before .before .before .before .before .before .before .before
 
-abbrev at-later : tie.After-drop-outlived-arg5 → tie.After-later
-at-later t = t .before .before .before .before .before
+abbrev at-later : tie.After-drop-outlived-arg3 → tie.After-later
+at-later t = t .before .before .before
 
-abbrev at-sound : tie.After-drop-outlived-arg5 → tie.Else1
+abbrev at-sound : tie.After-drop-outlived-arg3 → tie.Else1
 at-sound t = at-later t .before .before
 
 abbrev at-fresh : tie.After-parse → tie.After-drop-outlived
-at-fresh t = t .before .before .before .before .before .before .before .before .before .before .before
+at-fresh t = t .before .before .before .before .before .before .before
 
 abbrev at-parse : tie.After-known-told → tie.After-parse
 at-parse t = t .before .before .before
@@ -56,26 +56,26 @@ at-fields t = t .before
 abbrev at-memory : tie.After-entry-of → tie.After-memory-of
 at-memory t = t .before
 
-abbrev at-nonce : tie.After-is-replayed-arg5 → tie.After-entry-of
-at-nonce t = t .before .before .before .before .before
+abbrev at-nonce : tie.After-is-replayed-arg3 → tie.After-entry-of
+at-nonce t = t .before .before .before
 
 abbrev at-scope : tie.After-admit-arg → tie.After-is-replayed
 at-scope t = t .before .before .before
 
-abbrev at-admit : tie.After-slice-known17 → tie.After-admit
+abbrev at-admit : tie.After-slice-known13 → tie.After-admit
 at-admit t = t .before .before .before .before
 
 abbrev at-granted : tie.After-change-keys-arg → tie.Else2
 at-granted t = t .before
 
-abbrev at-keys : tie.After-slice-known18 → tie.After-change-keys
+abbrev at-keys : tie.After-slice-known14 → tie.After-change-keys
 at-keys t = t .before .before
 
 abbrev at-table : tie.After-enter-arg → tie.After-apply
 at-table t = t .before .before .before
 
-abbrev at-entered : tie.After-slice-known24 → tie.After-enter
-at-entered t = t .before .before .before .before .before .before .before .before .before .before
+abbrev at-entered : tie.After-slice-known18 → tie.After-enter
+at-entered t = t .before .before .before .before .before .before
 
 -- ---- from each to those that are asked for often
 abbrev start1 : tie.Else1 → tie.Start
@@ -102,8 +102,8 @@ scope-of t = opening (admit-of t .before)
 abbrev memories-of : tie.After-admit → tie.After-drop-outlived
 memories-of t = fresh-of (at-nonce (opening (t .before) .before))
 
-abbrev table-of : tie.After-slice-known24 → tie.After-apply
-table-of t = at-table (at-entered t .before .before .before .before .before)
+abbrev table-of : tie.After-slice-known18 → tie.After-apply
+table-of t = at-table (at-entered t .before .before .before)
 
 abbrev grant-of : tie.After-apply → tie.Else2
 grant-of t = at-granted (at-keys (t .before .before) .before)
@@ -112,8 +112,7 @@ grant-of t = at-granted (at-keys (t .before .before) .before)
 abbrev was : tie.Start → Drive
 was t =
     let a = t .args in
-    recordOf (a .size) (a .highwater .now) (a .keys .now) (a .tables .now) (a .lengths .now) (a .slots .now) (a .holders .now)
-    (a .times .now) (a .counts .now)
+    recordOf (a .size) (a .highwater .now) (a .keys .now) (a .tables .now) (a .lengths .now) (a .entries .now) (a .times .now)
 
 -- ---- row 1 does not apply: the record is sound, the medium its own, no count passes its array
 tested : (t : tie.After-passes-row1) → let a = at-start t .args in
@@ -123,7 +122,7 @@ tested t =
     let w = at-start t .pre in
     t .passes-row1 .ensures .0
     ∙ ap (λ (b : Bool). b && length (a .medium .now) is a .size)
-    (sym (sound-view (was (at-start t)) (w .lengths) (w .slots) (w .holders) (w .times) (w .counts)))
+    (sym (sound-view (was (at-start t)) (w .lengths) (w .entries) (w .times)))
 
 ready-of : (t : tie.Else1) → t .before .passes-row1 .result ≡ true
 ready-of t = not-false (t .before .passes-row1 .result) (t .if1 .left)
@@ -141,11 +140,9 @@ counted t =
       objects = t .before .passes-row1 .ensures .1 (ready-of t);
       memories = record {
         five = w .lengths;
-        entries = and-r A (every entriesFit (d .lengths)) all;
-        slots = w .slots;
-        holders = w .holders;
+        short = and-r A (every entriesFit (d .lengths)) all;
+        entries = w .entries;
         times = w .times;
-        counts = w .counts;
       };
     }
 
@@ -171,14 +168,13 @@ now t =
     let a = start2 t .args in
     let l = t .drop-outlived .last in
     recordOf (a .size) (at-later (t .before) .later .result) (a .keys .now) (a .tables .now) (l .0) (l .1 .0) (l .1 .1 .0)
-    (l .1 .1 .1 .0) (l .1 .1 .1 .1 .0)
 
 view-of : (t : tie.After-drop-outlived) → view (now t) ≡ refresh (start2 t .args .clock) (view (was (start2 t)))
 view-of t =
     let k = at-later (t .before) .later in
     let l = t .drop-outlived .last in
-    refreshed-view (was (start2 t)) (start2 t .args .clock) (k .result) (l .0) (l .1 .0) (l .1 .1 .0) (l .1 .1 .1 .0)
-    (l .1 .1 .1 .1 .0) (k .ensures) (t .drop-outlived .ensures .0)
+    refreshed-view (was (start2 t)) (start2 t .args .clock) (k .result) (l .0) (l .1 .0) (l .1 .1 .0)
+    (k .ensures) (t .drop-outlived .ensures .0)
 
 counted-of : (t : tie.After-drop-outlived) → CountsFit (now t)
 counted-of t =
@@ -201,12 +197,12 @@ low-memory t = let h = in-five (parsed-of (at-fields t)) in omega (arith, t .mem
 -- ---- the frame's scope is taken out of the drive
 found : (t : tie.After-is-replayed) → let n = at-nonce (t .before) in let d = now (fresh-of n) in
     t .is-replayed .result ≡ some? (sameEntry (entry (cred (at-fields (at-memory n))) (numbersOf (req (at-fields (at-memory n))))))
-    (getD (memoriesOf (d .lengths) (d .slots) (d .holders) (d .times) (d .counts)) (at-memory n .memory-of .result) [])
+    (getD (memoriesOf (d .lengths) (d .entries) (d .times)) (at-memory n .memory-of .result) [])
 found t =
     let n = at-nonce (t .before) in
     let d = now (fresh-of n) in
     t .is-replayed .ensures
-    ∙ ap (λ (e : Entry). some? (sameEntry e) (getD (memoriesOf (d .lengths) (d .slots) (d .holders) (d .times) (d .counts))
+    ∙ ap (λ (e : Entry). some? (sameEntry e) (getD (memoriesOf (d .lengths) (d .entries) (d .times))
     (at-memory n .memory-of .result) [])) (n .entry-of .ensures)
 
 abbrev opened : tie.After-is-replayed → Opened
@@ -238,7 +234,7 @@ opened t =
 
 -- the memories are as drop_outlived left them
 left-of : (t : tie.After-apply) → let d = now (fresh-of (at-nonce (scope-of (grant-of t) .before))) in
-    MemoriesFit (d .lengths) (d .slots) (d .holders) (d .times) (d .counts)
+    MemoriesFit (d .lengths) (d .entries) (d .times)
 left-of t = fresh-of (at-nonce (scope-of (grant-of t) .before)) .drop-outlived .ensures .1
 
 returns : tie.Need-returns
@@ -297,20 +293,14 @@ admit-requires : tie.Need-admit-requires
 admit-requires c κs = let o = opened (opening c) in (mem o, ready o)
 
 -- the memories' lengths are as drop_outlived kept them
+same-length-9 : tie.Need-same-length-9
+same-length-9 c = memories-of (at-admit (c .before)) .drop-outlived .kept .0
+
+same-length-10 : tie.Need-same-length-10
+same-length-10 c = memories-of (at-admit (c .before)) .drop-outlived .kept .1 .0
+
 same-length-11 : tie.Need-same-length-11
-same-length-11 c = memories-of (at-admit (c .before)) .drop-outlived .kept .0
-
-same-length-12 : tie.Need-same-length-12
-same-length-12 c = memories-of (at-admit (c .before)) .drop-outlived .kept .1 .0
-
-same-length-13 : tie.Need-same-length-13
-same-length-13 c = memories-of (at-admit (c .before)) .drop-outlived .kept .1 .1 .0
-
-same-length-14 : tie.Need-same-length-14
-same-length-14 c = memories-of (at-admit (c .before)) .drop-outlived .kept .1 .1 .1 .0
-
-same-length-15 : tie.Need-same-length-15
-same-length-15 c = memories-of (at-admit (c .before)) .drop-outlived .kept .1 .1 .1 .1 .0
+same-length-11 c = memories-of (at-admit (c .before)) .drop-outlived .kept .1 .1 .0
 
 returns-3 : tie.Need-returns-3
 returns-3 c =
@@ -330,7 +320,7 @@ part-apply-end c =
 
 enter-requires : tie.Need-enter-requires
 enter-requires c κs =
-    let t = at-table (c .before .before .before .before) in
+    let t = at-table (c .before .before) in
     let e = grant-of t in
     let o = opened (scope-of e) in (
       left-of t,
@@ -339,23 +329,17 @@ enter-requires c κs =
     )
 
 -- and then as enter kept them
-abbrev first-of : tie.After-slice-known24 → tie.After-drop-outlived
+abbrev first-of : tie.After-slice-known18 → tie.After-drop-outlived
 first-of t = memories-of (admit-of (grant-of (table-of t)))
 
-same-length-20 : tie.Need-same-length-20
-same-length-20 c = at-entered c .enter .kept .0 ∙ first-of c .drop-outlived .kept .0
+same-length-16 : tie.Need-same-length-16
+same-length-16 c = at-entered c .enter .kept .0 ∙ first-of c .drop-outlived .kept .0
 
-same-length-21 : tie.Need-same-length-21
-same-length-21 c = at-entered c .enter .kept .1 .0 ∙ first-of c .drop-outlived .kept .1 .0
+same-length-17 : tie.Need-same-length-17
+same-length-17 c = at-entered c .enter .kept .1 .0 ∙ first-of c .drop-outlived .kept .1 .0
 
-same-length-22 : tie.Need-same-length-22
-same-length-22 c = at-entered c .enter .kept .1 .1 .0 ∙ first-of c .drop-outlived .kept .1 .1 .0
-
-same-length-23 : tie.Need-same-length-23
-same-length-23 c = at-entered c .enter .kept .1 .1 .1 .0 ∙ first-of c .drop-outlived .kept .1 .1 .1 .0
-
-same-length-24 : tie.Need-same-length-24
-same-length-24 c = at-entered c .enter .kept .1 .1 .1 .1 .0 ∙ first-of c .drop-outlived .kept .1 .1 .1 .1 .0
+same-length-18 : tie.Need-same-length-18
+same-length-18 c = at-entered c .enter .kept .1 .1 .0 ∙ first-of c .drop-outlived .kept .1 .1 .0
 
 returns-4 : tie.Need-returns-4
 returns-4 c =
@@ -368,7 +352,7 @@ returns-4 c =
     let l = n .enter .last in
     met-granted o (admit-of e .admit .ensures (mem o) (ready o)) (e .if2 .left) (g .change-keys .last .0) (p .apply .last .0)
     (g .change-keys .ensures) (p .apply .ensures .table (long-part o)) (s .entry-of .result) (s .entry-of .ensures)
-    (l .0) (l .1 .0) (l .1 .1 .0) (l .1 .1 .1 .0) (l .1 .1 .1 .1 .0) (n .enter .ensures) _ refl
+    (l .0) (l .1 .0) (l .1 .1 .0) (n .enter .ensures) _ refl
 
 pub put-frame-spec : {M : Type 1} → statement M
 put-frame-spec =
@@ -376,11 +360,11 @@ put-frame-spec =
     (tie.spec
     (λ c κs. search needs) (λ c. search needs) (λ c. search needs) returns (λ c κs. search needs) drop-outlived-requires
     (λ c κs. search needs) (λ c. search needs) (λ c. search needs) (λ c κs. search needs) (λ c. search needs)
-    (λ c. search needs) (λ c. search needs) (λ c. search needs) (λ c. search needs) (λ c. search needs) returns-2
+    (λ c. search needs) (λ c. search needs) (λ c. search needs) returns-2
     (λ c κs. search needs) (λ c κs. search needs) is-replayed-requires mul-held slice-read-held (λ c. search needs)
     (λ c. search needs) (λ c. search needs) (λ c. search needs) (λ c. search needs) (λ c. search needs) part-admit-end
-    admit-requires (λ c. search needs) (λ c. search needs) same-length-11 same-length-12 same-length-13 same-length-14
-    same-length-15 (λ c. search needs) (λ c. search needs) returns-3 change-keys-requires (λ c. search needs)
+    admit-requires (λ c. search needs) (λ c. search needs) same-length-9 same-length-10 same-length-11
+    (λ c. search needs) (λ c. search needs) returns-3 change-keys-requires (λ c. search needs)
     (λ c. search needs) (λ c. search needs) part-apply-end (λ c κs. search needs) enter-requires (λ c. search needs)
-    (λ c. search needs) same-length-20 same-length-21 same-length-22 same-length-23 same-length-24 (λ c. search needs)
+    (λ c. search needs) same-length-16 same-length-17 same-length-18 (λ c. search needs)
     (λ c. search needs) returns-4)

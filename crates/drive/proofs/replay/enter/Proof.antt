@@ -6,14 +6,15 @@ use Rattle.drive.proofs.replay.enter.Tie as tie
 
 returns : tie.Need-returns
 returns c =
-    let a = c .before .args in
-    let pre = c .before .pre in
-    joined-at (a .lengths .now) (a .slots .now) (a .holders .now) (a .times .now) (a .counts .now) (pre .0) (a .k) (pre .1) (a .nonce) (pre .2)
+    let n = c .before .before .before .before in
+    let start = n .before .before .before .before .before .before .before in
+    let a = start .args in
+    joined-at (a .lengths .now) (a .entries .now) (a .times .now) (start .pre .0) (a .k) (start .pre .1) (a .nonce)
+    (n .enter .last .0) (n .enter .last .1 .0) (n .enter .ensures) (start .pre .2)
 
 pub enter-spec : {M : Type 1} → statement M
 enter-spec =
     tie.close
     (tie.spec
-    (λ c. search needs) (λ c. search needs) (λ c. search needs) (λ c. search needs) (λ c. search needs) (λ c. search needs) (λ c. search needs)
-    (λ c. search needs) (λ c. search needs) (λ c. search needs) (λ c. search needs) (λ c. search needs) (λ c. search needs) (λ c. search needs)
+    (λ c. search needs) (λ c. search needs) (λ c. search needs) (λ c. search needs) (λ c κs. search needs) (λ c. search needs)
     (λ c. search needs) (λ c. search needs) (λ c. search needs) (λ c. search needs) (λ c. search needs) returns)
