@@ -5,7 +5,7 @@
  *   solver check CREDENTIAL KEY TIME COUNT LENGTH < reply > shape   first LENGTH of these bytes, and the shape that the reply shows
  *
  * CREDENTIAL is a file of 36 bytes and KEY one of 32, both from the file manager; TIME is in milliseconds and COUNT numbers the
- * holder's frames of one millisecond. A refusal prints its row, and no shape.
+ * holder's frames for the object in one millisecond. A refusal prints its row, and no shape.
  * Build: cc -Iinclude examples/solver.c target/staticlib/libsolver.a
  */
 #include "wire.h"
@@ -55,7 +55,7 @@ static int check(size_t reply_len)
     return print(reply + c.start, c.length);
 }
 
-/* The count is random: other processes may send frames of this holder in the same millisecond. */
+/* The count is random: other processes may send frames of this holder for this object in the same millisecond. */
 static int shape(const char *path, const char *credential_name, const char *key_name)
 {
     struct sievelast_credential c = load_credential(credential_name, key_name);

@@ -25,7 +25,7 @@ extern "C" {
 #endif
 
 /* ---- version: of these headers and the archives installed with them; SIEVELAST_VERSION is the three as text, with dots */
-#define SIEVELAST_VERSION_MAJOR 1
+#define SIEVELAST_VERSION_MAJOR 2
 #define SIEVELAST_VERSION_MINOR 0
 #define SIEVELAST_VERSION_PATCH 0
 #define SIEVELAST_TEXT_(x) #x
@@ -176,7 +176,7 @@ struct sievelast_credential {
     uint8_t least;     /* enum sievelast_level: the least that a frame may have */
 };
 
-/* A frame's nonce is slot, holder, time and count. No replay memory grants one twice. */
+/* A frame's nonce is slot, holder, time, count and the credential's object. No replay memory grants one twice. */
 struct sievelast_request {
     uint64_t time;     /* milliseconds, by the drive's clock */
     uint32_t count;

@@ -30,7 +30,8 @@ extern "C" {
 #define SIEVELAST_RECORD_TABLES 268 /* numbers: for each partition version, last version given, count of objects, and 16 each of
                                        number, version, size, start */
 #define SIEVELAST_RECORD_PLACES 320 /* entries: 64 for each replay memory */
-#define SIEVELAST_RECORD_ENTRY 3    /* numbers of an entry: slot, holder, count; its time stands in a row of its own */
+#define SIEVELAST_RECORD_ENTRY 4    /* numbers of an entry: slot, holder, count, the credential's object; its time stands in a row of
+                                       its own */
 #define SIEVELAST_RECORD_ENTRIES (SIEVELAST_RECORD_PLACES * SIEVELAST_RECORD_ENTRY) /* numbers of all, those of an entry together */
 
 /* The drive's record. First what battery memory would keep, then what a drive may lose. A caller may read `size` and `highwater`

@@ -114,6 +114,23 @@ static inline void draft_what(struct draft *f, struct sievelast_drive *d, struct
     }
 }
 
+/* Holder, time and count of an entry of the draft's memory, and its slot where that is a working key's: the draft repeats a frame, or
+ * is another object's under the same numbers. */
+static inline void draft_again(struct draft *f, const struct sievelast_drive *d, struct choices *s)
+{
+    int memory = f->who.slot < 3 ? f->who.partition : 4;
+    uint64_t n = d->lengths[memory] < SIEVELAST_MOST_ENTRIES ? d->lengths[memory] : SIEVELAST_MOST_ENTRIES;
+    if (n == 0)
+        return;
+    size_t place = first_place(memory) + choose(s, n);
+    const uint32_t *entry = entry_seen(d->entries, place);
+    if (f->who.slot < 2 && entry[ENTRY_SLOT] < 2)
+        f->who.slot = (uint8_t)entry[ENTRY_SLOT];
+    f->who.holder = entry[ENTRY_HOLDER];
+    f->what.count = entry[ENTRY_COUNT];
+    f->what.time = d->times[place];
+}
+
 /* One field that a row from 7 to 20 is about, mostly none. */
 static inline void spoil_field(struct draft *f, const struct sievelast_drive *d, struct choices *s)
 {
@@ -132,6 +149,7 @@ static inline void spoil_field(struct draft *f, const struct sievelast_drive *d,
     case 10: what->a += 1; break;
     case 11: what->b = (uint32_t)quarter_of(d) + 1; break;
     case 12: who->slot = (uint8_t)choose(s, 5); break;
+    case 13: draft_again(f, d, s); break;
     default: break;
     }
 }

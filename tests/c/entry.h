@@ -4,7 +4,7 @@
 #define TESTS_ENTRY_H
 #include "sievelast_store.h"
 
-enum { ENTRY_SLOT, ENTRY_HOLDER, ENTRY_COUNT };
+enum { ENTRY_SLOT, ENTRY_HOLDER, ENTRY_COUNT, ENTRY_OBJECT };
 
 /* The numbers of the entry at a place, in a record's `entries`. */
 static inline uint32_t *entry_at(uint32_t *entries, size_t place) { return entries + place * SIEVELAST_RECORD_ENTRY; }

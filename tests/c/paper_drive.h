@@ -1,5 +1,5 @@
-/* What document 01 says of format and gate, in plain C over the record of sievelast_store.h, and written from the paper: what each
- * call must answer and leave behind, from any record, sound or not. */
+/* What document 01 says of format and gate, with change 2 of document 02, in plain C over the record of sievelast_store.h, and written
+ * from the papers: what each call must answer and leave behind, from any record, sound or not. */
 #ifndef TESTS_PAPER_DRIVE_H
 #define TESTS_PAPER_DRIVE_H
 #include "entry.h"
@@ -155,12 +155,14 @@ static inline uint64_t row_2_to_7(const uint8_t *frame, size_t frame_len)
     return paper_row_6(c, r) ? 6 : paper_row_7(c, r) ? 7 : 0;
 }
 
-/* "A grant enters (slot, holder, T, count)", which are the nonce: T is q->time, and here are the other numbers. */
+/* "A grant enters (slot, holder, T, count)." Change 2: "Each memory entry, and so row 12's nonce, has the credential's object too."
+ * T is q->time; here are the other numbers. */
 static inline void entry_of(const struct paper_call *q, uint32_t out[SIEVELAST_RECORD_ENTRY])
 {
     out[ENTRY_SLOT] = (uint32_t)q->slot;
     out[ENTRY_HOLDER] = q->holder;
     out[ENTRY_COUNT] = q->count;
+    out[ENTRY_OBJECT] = q->object;
 }
 
 static inline int replayed(const struct sievelast_drive *d, const struct paper_call *q)

@@ -68,7 +68,7 @@ static void constants(void)
 
     EXPECT(SIEVELAST_RECORD_KEYS == (1 + 1 + 4 * 3) * (32 + 1));
     EXPECT(SIEVELAST_RECORD_TABLES == 4 * (3 + 4 * 16) && SIEVELAST_RECORD_PLACES == 5 * 64);
-    EXPECT(SIEVELAST_RECORD_ENTRY == 3 && SIEVELAST_RECORD_ENTRIES == 5 * 64 * 3);
+    EXPECT(SIEVELAST_RECORD_ENTRY == 4 && SIEVELAST_RECORD_ENTRIES == 5 * 64 * 4);
 }
 
 /* What the archives were compiled for: the structs that calls take and return. */
@@ -514,6 +514,13 @@ static void credential_read(struct session *s, uint32_t version)
     EXPECT_READ(s, SIEVELAST_GRANTED);
     c->holder = UINT32_MAX, EXPECT_ROW(s, SIEVELAST_GRANTED);
     EXPECT_ROW(s, SIEVELAST_ROW_REPLAYED);
+    /* of one holder, time and count, a look at the object and one at the partition */
+    session_request(s, SIEVELAST_LOOK, 0, 0);
+    c->rights = SIEVELAST_RIGHT(SIEVELAST_LOOK), EXPECT_ROW(s, SIEVELAST_GRANTED);
+    c->object = 0, c->version = SESSION_FIRST_VERSION, EXPECT_ROW(s, SIEVELAST_GRANTED);
+    EXPECT_ROW(s, SIEVELAST_ROW_REPLAYED);
+    c->object = NUMBER, c->version = version, EXPECT_ROW(s, SIEVELAST_ROW_REPLAYED);
+    c->rights = SIEVELAST_RIGHT(SIEVELAST_READ);
     /* a frame under the least level is not even built */
     c->least = SIEVELAST_LEVEL_REPLY, EXPECT_READ(s, SIEVELAST_GRANTED);
     s->request.level = SIEVELAST_LEVEL_DATA;

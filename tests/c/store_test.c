@@ -88,11 +88,10 @@ static uint8_t frame[SIEVELAST_LEAST_FRAME_BYTES + 300], seed[SIEVELAST_SEED_BYT
 static size_t frame_len;
 static uint32_t next_count;
 
-/* A frame of who and what, from the key of its slot; its count is a new one. */
-static void make(const uint8_t *slot_key, const uint8_t *data)
+/* A frame of who and what, from the key of its slot. */
+static void build(const uint8_t *slot_key, const uint8_t *data)
 {
     uint8_t credential[SIEVELAST_CREDENTIAL_BYTES], request[SIEVELAST_REQUEST_BYTES];
-    what.count = next_count++;
     struct sievelast_issued i = sievelast_issue(who, slot_key, SIEVELAST_KEY_BYTES, credential, sizeof credential);
     EXPECT_NUMBER(i.row, 0);
     EXPECT_NUMBER(sievelast_request_encode(what, request, sizeof request), 0);
@@ -100,6 +99,13 @@ static void make(const uint8_t *slot_key, const uint8_t *data)
                                                SIEVELAST_KEY_BYTES, frame, sizeof frame);
     EXPECT_NUMBER(b.row, 0);
     frame_len = b.length;
+}
+
+/* The same with a new count. */
+static void make(const uint8_t *slot_key, const uint8_t *data)
+{
+    what.count = next_count++;
+    build(slot_key, data);
 }
 
 static struct lending lending(void)
@@ -276,11 +282,17 @@ static void rows_of_the_fields(void)
 }
 
 /* ---- rows 19, 21 and 22: of what a drive can hold */
-static void rows_of_the_state(void)
+/* A drive with every object that partition 0 can have; object i is of version i + 1, and so is object 0, the partition. */
+static void ready_with_objects(void)
 {
     ready(1);
     for (uint32_t i = 2; i <= SIEVELAST_MOST_OBJECTS; i++)
         ask(SIEVELAST_CREATE, 0, 1, i, 3), make(black, NULL), EXPECT_NUMBER(row(), 0);
+}
+
+static void rows_of_the_state(void)
+{
+    ready_with_objects();
     ask(SIEVELAST_CREATE, 0, 1, 17, 3), make(black, NULL), EXPECT_NUMBER(row(), 19);
     ask(SIEVELAST_DELETE, OBJECT, 2, 0, 0), make(black, NULL), EXPECT_NUMBER(row(), 0);
     ask(SIEVELAST_CREATE, 0, 1, 17, SIZE), make(black, NULL), EXPECT_NUMBER(row(), 0);
@@ -295,6 +307,74 @@ static void rows_of_the_state(void)
     ready(UINT32_MAX);
     ask(SIEVELAST_RAISE, 0, UINT32_MAX, 0, 0), make(black, NULL), EXPECT_NUMBER(row(), 21);
     ask(SIEVELAST_CREATE, 0, UINT32_MAX, 1, 1), make(black, NULL), EXPECT_NUMBER(row(), 21);
+}
+
+/* ---- row 12 and two heads under one holder number, each counting from zero: the nonce has the object */
+enum { HEADS = 4711, OTHER = 5, THIRD = 9, LATER = CLOCK + SIEVELAST_TIME_WINDOW + 1 };
+
+static const uint32_t looked_at[] = {OBJECT, OTHER, 0}; /* object 0 is the partition */
+enum { LOOKS = sizeof looked_at / sizeof *looked_at };
+
+/* A head's frame: an operation without bytes on an object, or a create of one more than there are. Its row. */
+static uint64_t head_row(int operation, uint32_t object, uint64_t time, uint32_t count, uint64_t clock)
+{
+    int creates = operation == SIEVELAST_CREATE;
+    ask(operation, object, object + 1, creates ? SIEVELAST_MOST_OBJECTS + 1 : 0, creates);
+    who.expiry = UINT64_MAX;
+    who.holder = HEADS;
+    what.time = time;
+    what.count = count;
+    build(black, NULL);
+    struct lending l = lending();
+    l.clock = clock;
+    return put(l).row;
+}
+
+/* A look at each, by count 0: all get this row. */
+static void looks(uint64_t right, uint64_t time, uint64_t clock)
+{
+    for (int i = 0; i < LOOKS; i++)
+        EXPECT_NUMBER(head_row(SIEVELAST_LOOK, looked_at[i], time, 0, clock), right);
+}
+
+static void two_heads(void)
+{
+    ready_with_objects();
+    looks(0, CLOCK, CLOCK);
+    looks(12, CLOCK, CLOCK);
+    EXPECT_NUMBER(head_row(SIEVELAST_LOOK, OTHER, CLOCK, 1, CLOCK), 0);
+    EXPECT_NUMBER(head_row(SIEVELAST_DELETE, OTHER, CLOCK, 1, CLOCK), 12); /* another operation on it */
+    EXPECT_NUMBER(head_row(SIEVELAST_CREATE, 0, CLOCK, 1, CLOCK), 19);     /* refused, and not entered */
+    EXPECT_NUMBER(head_row(SIEVELAST_DELETE, THIRD, CLOCK, 1, CLOCK), 0);
+    EXPECT_NUMBER(head_row(SIEVELAST_CREATE, 0, CLOCK, 1, CLOCK), 0);
+    EXPECT_NUMBER(head_row(SIEVELAST_LOOK, 0, CLOCK, 1, CLOCK), 12); /* a create is the partition's, whatever number it makes */
+}
+
+/* When the mark has outlived what stands before them, entries move to the front, each with its object. */
+static void entries_moved(void)
+{
+    uint64_t time = CLOCK + SIEVELAST_TIME_WINDOW;
+    ready_with_objects();
+    EXPECT(drive.lengths[0] > LOOKS);
+    looks(0, time, CLOCK);
+    looks(12, time, LATER);
+    EXPECT_NUMBER(drive.lengths[0], LOOKS);
+    for (size_t i = 0; i < LOOKS; i++)
+        EXPECT_NUMBER(entry_at(drive.entries, i)[ENTRY_OBJECT], looked_at[i]);
+    EXPECT_NUMBER(head_row(SIEVELAST_LOOK, THIRD, time, 0, LATER), 0);
+    EXPECT_NUMBER(head_row(SIEVELAST_LOOK, THIRD, time, 0, LATER), 12);
+    looks(12, time, LATER);
+}
+
+/* Row 22 counts what differs in the object alone: four counts for each of sixteen objects fill a memory. */
+static void memory_of_objects(void)
+{
+    ready_with_objects();
+    for (uint32_t i = 0; i < SIEVELAST_MOST_ENTRIES; i++)
+        EXPECT_NUMBER(head_row(SIEVELAST_LOOK, 1 + i % SIEVELAST_MOST_OBJECTS, LATER, i / SIEVELAST_MOST_OBJECTS, LATER), 0);
+    EXPECT_NUMBER(drive.lengths[0], SIEVELAST_MOST_ENTRIES);
+    EXPECT_NUMBER(head_row(SIEVELAST_LOOK, 0, LATER, 0, LATER), 22);
+    EXPECT_NUMBER(head_row(SIEVELAST_LOOK, OTHER, LATER, 0, LATER), 12);
 }
 
 /* ---- row 23: a reply space too short by one, exact and longer, for each operation and level; the rest of the reply is checked */
@@ -594,6 +674,9 @@ int main(int argc, char **argv)
     frame_lengths();
     rows_of_the_fields();
     rows_of_the_state();
+    two_heads();
+    entries_moved();
+    memory_of_objects();
     for (int level = 0; level <= SIEVELAST_LEVEL_REPLY; level++)
         reply_spaces(level);
     alignments();

@@ -1,8 +1,7 @@
 /* Wrong drives, to see that the target `gate` notices: linked with -Wl,--wrap, each spoils what the proved code gives. BROKEN_gate says
  * which. */
+#include "paper_drive.h"
 #include "parts.h"
-
-#include <string.h>
 
 uint64_t __real_sievelast_format_parts(FORMAT_PARAMETERS);
 uint64_t __wrap_sievelast_format_parts(FORMAT_PARAMETERS);
@@ -11,6 +10,35 @@ struct sievelast_answered __wrap_sievelast_gate_parts(GATE_PARAMETERS);
 
 /* A byte past or before a space, or of a const one, written where no sanitizer looks. */
 __attribute__((no_sanitize("address", "undefined"), unused)) static void spoil(const void *at) { *(volatile uint8_t *)(uintptr_t)at = 1; }
+
+/* The place of the entry that a granted frame made: the last of its memory. */
+__attribute__((unused)) static size_t entered(const uint8_t *frame, const uint64_t *lengths)
+{
+    struct paper_call q = paper_call_of(frame);
+    return first_place(q.memory) + lengths[q.memory] - 1;
+}
+
+/* Whether its memory held the time and the numbers that stand before the object already: then for another object. */
+__attribute__((unused)) static int other_object(const uint8_t *frame, const uint64_t *lengths, const uint32_t *entries,
+                                                const uint64_t *times)
+{
+    size_t last = entered(frame, lengths);
+    for (size_t i = last / SIEVELAST_MOST_ENTRIES * SIEVELAST_MOST_ENTRIES; i < last; i++)
+        if (times[i] == times[last] && !memcmp(entry_seen(entries, i), entry_seen(entries, last), ENTRY_OBJECT * sizeof *entries))
+            return 1;
+    return 0;
+}
+
+/* In memories that lost entries each place gets the object back that it had before. */
+__attribute__((unused)) static void objects_stay(const uint32_t *before, uint32_t *entries, const uint64_t *held,
+                                                 const uint64_t *lengths)
+{
+    for (int m = 0; m < SIEVELAST_MEMORIES; m++) {
+        size_t first = first_place(m), end = lengths[m] < held[m] ? first + lengths[m] : first;
+        for (size_t i = first; i < end; i++)
+            entry_at(entries, i)[ENTRY_OBJECT] = entry_seen(before, i)[ENTRY_OBJECT];
+    }
+}
 
 uint64_t __wrap_sievelast_format_parts(FORMAT_PARAMETERS)
 {
@@ -30,7 +58,9 @@ uint64_t __wrap_sievelast_format_parts(FORMAT_PARAMETERS)
 struct sievelast_answered __wrap_sievelast_gate_parts(GATE_PARAMETERS)
 {
     uint64_t held[SIEVELAST_MEMORIES], mark = *highwater;
+    uint32_t before[SIEVELAST_RECORD_ENTRIES];
     memcpy(held, lengths, sizeof held);
+    memcpy(before, entries, sizeof before);
     struct sievelast_answered a = __real_sievelast_gate_parts(GATE_PASSED);
 #if BROKEN_gate == 3 /* one byte past the reply space */
     if (a.row == 0)
@@ -74,7 +104,20 @@ struct sievelast_answered __wrap_sievelast_gate_parts(GATE_PARAMETERS)
 #elif BROKEN_gate == 16 /* a grant changes another partition's table */
     if (a.row == 0)
         tables[SIEVELAST_RECORD_TABLES - 1] ^= 1;
+#elif BROKEN_gate == 17 /* the nonce has no object */
+    if (a.row == 0 && other_object(frame, lengths, entries, times))
+        a.row = 12, a.length = 0;
+    else if (a.row == 0)
+        entry_at(entries, entered(frame, lengths))[ENTRY_OBJECT] = 0;
+#elif BROKEN_gate == 18 /* the object is entered and not compared */
+    if (a.row == 0 && other_object(frame, lengths, entries, times))
+        a.row = 12, a.length = 0;
+#elif BROKEN_gate == 19 /* the object is compared and not entered */
+    if (a.row == 0)
+        entry_at(entries, entered(frame, lengths))[ENTRY_OBJECT] = 0;
+#elif BROKEN_gate == 20 /* an entry that moves leaves its object behind */
+    objects_stay(before, entries, held, lengths);
 #endif
-    (void)mark;
+    (void)mark, (void)before;
     return a;
 }

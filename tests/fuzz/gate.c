@@ -106,6 +106,7 @@ static void prepare(struct choices *s)
     for (size_t i = 0; i < SIEVELAST_RECORD_PLACES; i++) {
         drive.times[i] = drive.highwater + 2000 - i % SIEVELAST_MOST_ENTRIES * 100;
         entry_at(drive.entries, i)[ENTRY_COUNT] = (uint32_t)i;
+        entry_at(drive.entries, i)[ENTRY_OBJECT] = (uint32_t)i % 3;
     }
 }
 

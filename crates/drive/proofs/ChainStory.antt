@@ -1,11 +1,13 @@
--- The customer's story over the code's own contract: the rules' own on the same calls, and demand 3's reads.
-use mathlib.Core.Path.{_∙_, ap, subst, sym}
+-- The customer's story over the code's own contract: the rules' own on the same calls, demand 3's reads, and its nonces.
+use mathlib.Core.Path.{_∙_, _≡_, ap, subst, sym}
 use mathlib.Core.List.{[], _++_, _∷_, append-assoc, append-nil, List, map}
 use Prim.Native.Nat.{ℕ}
 use lib.ListN.{length}
 use Rattle.lemmas.specs.ListLaws.{map-append}
 use Rattle.lemmas.specs.Lists.{part}
-use Rattle.rules.specs.Demands.{callFields, bytesOf, fed, State}
+use Rattle.rules.specs.Demands.{callFields, bytesOf, fed, Nonce, nonce, State}
+use Rattle.rules.specs.Frame.{entry, fields, memoryIndex}
+use Rattle.rules.specs.Gate.{Call}
 use Rattle.rules.specs.Ledger.{Fed, Ledger, ledger, ledgerStart}
 use Rattle.rules.specs.Story.{OfEveryList, OneLog, OpensNothing, VersionsOnce}
 use Rattle.rules.proofs.OneLog.{one-log, versions-once}
@@ -30,6 +32,14 @@ fed-claim Claim all medium F master key r zeroed calls made =
     first : DriveState
     first = record { drive = r .drive; medium = zeroed }
 
+-- one frame, one nonce
+same-nonce : (c d : Call) → c .frame ≡ d .frame → nonce c ≡ nonce d
+unfolding nonce
+same-nonce c d e = ap {B = Nonce} (λ (f : List ℕ). record {
+  memory = memoryIndex (fields f .cred);
+  entry = entry (fields f .cred) (fields f .req);
+}) e
+
 pub story : AllOfStory
 story medium F master key r zeroed calls made = record {
   versions = fed-claim VersionsOnce versions-once medium F master key r zeroed calls made;
@@ -44,6 +54,8 @@ story medium F master key r zeroed calls made = record {
       (ap (map fedBy) e ∙ map-append fedBy before (c ∷ (between ++ (d ∷ later)))
       ∙ ap (λ (f : List Fed). map fedBy before ++ (fedBy c ∷ f)) (map-append fedBy between (d ∷ later)))
       uc ud);
+  countsOnce = λ before between later c d e gc gd same.
+      demand3 medium F master key r zeroed calls made .noRepeat before between later c d e gc gd (same-nonce (c .call) (d .call) same);
   opensNothing = fed-claim OpensNothing opens-nothing medium F master key r zeroed calls made;
 }
   where

@@ -1,4 +1,4 @@
--- Demands 1 and 3 and the story of lent calls: a list of them is one of calls by value, whose theorems say the rest.
+-- Demands 1 and 3, the story and what row 12 answers, of lent calls: a list of them is one of calls by value, whose theorems say the rest.
 use mathlib.Core.Path.{refl}
 use mathlib.Core.List.{[], _∷_, List, map}
 use Prim.Native.Nat.{ℕ}
@@ -14,10 +14,12 @@ use Rattle.drive.specs.Lent.{
   AllOfLentDemand1,
   AllOfLentDemand3,
   AllOfLentStory,
+  AllOfLentOnlyRepeats,
 }
 use Rattle.drive.proofs.Demand1.{demand1}
 use Rattle.drive.proofs.Demand3.{demand3}
 use Rattle.drive.proofs.ChainStory.{story}
+use Rattle.drive.proofs.ChainRepeats.{only-repeats}
 
 lent-chain : (s : DriveState) (calls : List LentCall) → LentChain s calls → Chain s (map madeFrom calls)
 unfolding LentChain Chain
@@ -43,3 +45,7 @@ lent-demand3 medium F master key d zeroed calls made =
 pub lent-story : AllOfLentStory
 lent-story medium F master key d zeroed calls made =
     story medium F master key (formattedWith 0 d) zeroed (map madeFrom calls) (lent-made medium F master key d zeroed calls made)
+
+pub lent-only-repeats : AllOfLentOnlyRepeats
+lent-only-repeats medium F master key d zeroed calls made =
+    only-repeats medium F master key (formattedWith 0 d) zeroed (map madeFrom calls) (lent-made medium F master key d zeroed calls made)

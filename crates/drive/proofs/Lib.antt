@@ -1,5 +1,5 @@
--- Laws of the rules that the code's proofs use; then the customer's demands 1 and 3 and the customer's story over the
--- code's own contracts.
+-- Laws of the rules that the code's proofs use; then the customer's demands 1 and 3, the customer's story and what row 12
+-- answers over the code's own contracts.
 mod Memories
 mod Tables
 pub mod Frames
@@ -13,4 +13,5 @@ pub mod Demand1
 pub mod Calls
 pub mod Demand3
 pub mod ChainStory
+pub mod ChainRepeats
 pub mod LentCalls

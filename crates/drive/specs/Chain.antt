@@ -101,7 +101,9 @@ viewed s = stateOf (s .drive) (s .medium)
 
 -- all of demand 3, of the calls made from drive and medium s on, M bytes, with the ledger that starts as l
 pub record Demand3 (M : ℕ) (s : DriveState) (l : Ledger) (calls : List CallMade) : Type 0 where
-  -- "No two grants in the whole list share nonce memory, key slot, holder, time and count."
+  -- "No two grants in the whole list share nonce memory, key slot, holder, time and count." Change 2 of document 02, which
+  -- holds now and lets grants for two objects share these: "What a list of grants never repeats is then nonce memory, slot,
+  -- holder, time, count and object together."
   pub noRepeat : (before between later : List CallMade) (b c : CallMade)
       → calls ≡ before ++ (b ∷ (between ++ (c ∷ later)))
       → Granted b

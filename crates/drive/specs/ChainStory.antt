@@ -12,7 +12,7 @@ use Rattle.rules.specs.Ledger.{Ledger, ledgerStart}
 use Rattle.rules.specs.Operations.{headSize}
 use Rattle.rules.specs.Story.{OneLog, OpensNothing, rewritten, Uses, VersionsOnce}
 use Rattle.drive.specs.declared.Formatted.{Formatted}
-use Rattle.drive.specs.Chain.{ledgerAfterCalls, CallMade, fedBy, MadeFromFormat}
+use Rattle.drive.specs.Chain.{ledgerAfterCalls, CallMade, fedBy, Granted, MadeFromFormat}
 
 pub record Story (M : ℕ) (l : Ledger) (calls : List CallMade) : Type 0 where
   -- "Each partition gives versions F, F + 1, .. of its own, each once."
@@ -28,6 +28,12 @@ pub record Story (M : ℕ) (l : Ledger) (calls : List CallMade) : Type 0 where
       → callOperation (d .call) ≡ Read A B
       → part (d .space) headSize B
       ≡ part (rewritten p n (map fedBy (c ∷ between)) (bytesOf (ledgerAfterCalls M l before) (callFields (c .call)))) A B
+  -- "A message that arrives twice counts once": no frame is granted twice, whatever clock readings and spaces it comes with
+  pub countsOnce : (before between later : List CallMade) (c d : CallMade)
+      → calls ≡ before ++ (c ∷ (between ++ (d ∷ later)))
+      → Granted c
+      → Granted d
+      → c .call .frame ≡ d .call .frame → ⊥
   -- "A credential that has run out, or that was made for the log before, opens nothing": neither one of an old version in
   -- operations 1 to 6 nor one whose expiry a clock reading has passed, whether or not it was used before
   pub opensNothing : OpensNothing M l (map fedBy calls)

@@ -1,6 +1,6 @@
 -- A drive whose record the caller lends in parts: the record that they make; the gate's promise over it is `GateMet` of that
 -- record before and after. Demands 1 and 3 and the story of lists of such calls: proved in proofs/, `lent-demand1`,
--- `lent-demand3`, `lent-story`.
+-- `lent-demand3`, `lent-story`, `lent-only-repeats`.
 -- s: drive and medium. c: a lent call.
 use mathlib.Core.Path.{_≡_}
 use mathlib.Core.List.{[], _∷_, List, map}
@@ -17,6 +17,7 @@ use Rattle.drive.specs.declared.Formatted.{Formatted}
 use Rattle.drive.specs.Met.{FormatMet, GateMet}
 use Rattle.drive.specs.Chain.{CallMade, Demand1, Demand3, DriveState}
 use Rattle.drive.specs.ChainStory.{Story}
+use Rattle.drive.specs.ChainRepeats.{OnlyRepeats}
 
 -- ---- parts
 -- the record that parts make: M, the mark, keys, tables, and the memories' lengths, entries and times
@@ -99,3 +100,8 @@ AllOfLentStory =
     (medium : List ℕ) (F : ℕ) (master key : List ℕ) (d : Drive) (zeroed : List ℕ) (calls : List LentCall)
     → LentFromFormat medium F master key d zeroed calls
     → Story (length medium) (ledgerStart F master key) (map madeFrom calls)
+
+abbrev pub AllOfLentOnlyRepeats : Type 0
+AllOfLentOnlyRepeats =
+    (medium : List ℕ) (F : ℕ) (master key : List ℕ) (d : Drive) (zeroed : List ℕ) (calls : List LentCall)
+    → LentFromFormat medium F master key d zeroed calls → OnlyRepeats (map madeFrom calls)

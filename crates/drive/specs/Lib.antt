@@ -5,4 +5,5 @@ pub mod Admission
 pub mod Met
 pub mod Chain
 pub mod ChainStory
+pub mod ChainRepeats
 pub mod Lent

@@ -44,6 +44,7 @@ pub fn entry_of(c: Credential, request: ParsedRequest) -> Entry
         holder: c.holder,
         time: request.time,
         count: request.count,
+        object: c.object,
     }
 }
 

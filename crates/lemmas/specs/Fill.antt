@@ -1,14 +1,20 @@
 -- Runs of one value and stores one after the other: a list filled from a place on, and what stands in it then.
-use mathlib.Core.Path.{_≡_, sym, ap, _∙_}
+use mathlib.Core.Path.{_≡_, refl, sym, ap, _∙_}
 use mathlib.Core.List.{List, [], _∷_, _++_, append-assoc, append-nil}
-use Prim.Native.Nat.{ℕ, suc, _+_, _-_, _≤_, _<_}
+use Prim.Native.Nat.{ℕ, zero, suc, _+_, _-_, _≤_, _<_}
 use native.Mathlib.Nat.{zero-add}
 use native.Mathlib.Numerals.{add-one}
 use native.Mathlib.Omega.{arith}
-use lib.ListN.{length, length-append, take, drop, set, replicate, length-replicate, replicate-append-replicate}
+use lib.ListN.{length, getD, length-append, take, drop, set, replicate, length-replicate, replicate-append-replicate}
 use lib.ListN.{drop-of-length-le}
 use lib.Seq.{take-suc-set, take-set-le, take-at, drop-at, length-take-le, sets, sets-eq}
 use Rattle.lemmas.specs.Lists.{splice}
+
+-- each place of a run, and each past its end where its value stands for those
+pub replicate-at : {A : Type 0} (n k : ℕ) (v : A) → getD (replicate n v) k v ≡ v
+replicate-at zero k v = refl
+replicate-at (suc n) zero v = refl
+replicate-at (suc n) (suc k) v = replicate-at n k v
 
 -- a run that is longer by one
 pub replicate-more : (n v : ℕ) → replicate (n + 1) v ≡ replicate n v ++ v ∷ []

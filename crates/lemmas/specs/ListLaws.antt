@@ -9,7 +9,7 @@ use native.Mathlib.Nat.{not-suc-le-zero, le-of-suc-le-suc}
 use native.Mathlib.Omega.{arith}
 use lib.ListN.{length, getD, set, length-map}
 use borrow.Author.Tests.{eqb-true, eqb-false}
-use Rattle.lemmas.specs.Tests.{_is_, _isnt_, and-l, and-r, both, or-intro-l, or-intro-r}
+use Rattle.lemmas.specs.Tests.{_is_, _isnt_, and-l, and-r, both, or-cases, or-intro-l, or-intro-r}
 use Rattle.lemmas.specs.Lists.{every, some?, pairs, keep, update, find, change, missing}
 
 -- ---- places of a list
@@ -46,6 +46,21 @@ module _ {A : Type 0} where
   nth-update-other zero (suc j) f (x ∷ xs) d h = refl
   nth-update-other (suc i) zero f (x ∷ xs) d h = refl
   nth-update-other (suc i) (suc j) f (x ∷ xs) d h = nth-update-other i j f xs d (λ e. h (ap suc e))
+
+  -- a member of the list at place k, where the list at place i was changed: of what that became, or it was there before
+  pub member-updated : (i k : ℕ) (f : List A → List A) (l : List (List A)) (a : A) → List·Memᴰ a (getD (update i f l) k [])
+      → ((i ≡ k) × List·Memᴰ a (f (getD l i []))) ⊎ List·Memᴰ a (getD l k [])
+  unfolding update
+  member-updated i k f [] a m = inr m
+  member-updated zero zero f (x ∷ xs) a m = inl (refl, m)
+  member-updated zero (suc k) f (x ∷ xs) a m = inr m
+  member-updated (suc i) zero f (x ∷ xs) a m = inr m
+  member-updated (suc i) (suc k) f (x ∷ xs) a m = go (member-updated i k f xs a m)
+    where
+      go : ((i ≡ k) × List·Memᴰ a (f (getD xs i []))) ⊎ List·Memᴰ a (getD xs k [])
+          → ((suc i ≡ suc k) × List·Memᴰ a (f (getD xs i []))) ⊎ List·Memᴰ a (getD xs k [])
+      go (inl e) = inl (ap suc (e .0), e .1)
+      go (inr n) = inr n
 
   -- ---- a test at each element
   pub every-nth : (t : A → Bool) (l : List A) (i : ℕ) (d : A) → t d ≡ true → every t l ≡ true → t (getD l i d) ≡ true
@@ -327,18 +342,34 @@ module _ {A : Type 0} where
   some-append-r t [] a h = or-intro-l (t a) false h
   some-append-r t (x ∷ xs) a h = or-intro-r (t x) (some? t (xs ++ (a ∷ []))) (some-append-r t xs a h)
 
-  pub some-keep : (t u : A → Bool) (l : List A) → ((a : A) → t a ≡ true → u a ≡ true) → some? t l ≡ true
-      → some? t (keep u l) ≡ true
+  -- where the test passes the element is kept: it passes at some element as before
+  pub some-keep : (t u : A → Bool) (l : List A) → ((a : A) → t a ≡ true → u a ≡ true)
+      → some? t (keep u l) ≡ some? t l
   unfolding some? keep
-  some-keep t u [] f h = h
-  some-keep t u (x ∷ xs) f h = go (t x) (u x) refl refl (λ h. some-keep t u xs f h) h
+  some-keep t u [] f = refl
+  some-keep t u (x ∷ xs) f = go (u x) (t x) refl refl (some-keep t u xs f)
     where
-      go : (b c : Bool) → t x ≡ b → u x ≡ c → (some? t xs ≡ true → some? t (keep u xs) ≡ true)
-          → (b || some? t xs) ≡ true → some? t (cond c (x ∷ keep u xs) (keep u xs)) ≡ true
-      go true true e k ih h = or-intro-l (t x) (some? t (keep u xs)) e
-      go true false e k ih h = absurd (false≢true (sym k ∙ f x e))
-      go false true e k ih h = or-intro-r (t x) (some? t (keep u xs)) (ih h)
-      go false false e k ih h = ih h
+      go : (b c : Bool) → u x ≡ b → t x ≡ c → some? t (keep u xs) ≡ some? t xs
+          → some? t (cond b (x ∷ keep u xs) (keep u xs)) ≡ (c || some? t xs)
+      go true c e k ih = ap (λ (d : Bool). t x || d) ih ∙ ap (λ (d : Bool). d || some? t xs) k
+      go false true e k ih = absurd (false≢true (sym e ∙ f x k))
+      go false false e k ih = ih
+
+  -- it passes at some element exactly where a member passes it
+  pub some-member : (t : A → Bool) (l : List A) → some? t l ≡ true → (a : A) × List·Memᴰ a l × (t a ≡ true)
+  unfolding some?
+  some-member t [] h = absurd (false≢true h)
+  some-member t (x ∷ xs) h = go (λ k. some-member t xs k) (or-cases (t x) (some? t xs) h)
+    where
+      go : (some? t xs ≡ true → (a : A) × List·Memᴰ a xs × (t a ≡ true)) → (t x ≡ true) ⊎ (some? t xs ≡ true)
+          → (a : A) × List·Memᴰ a (x ∷ xs) × (t a ≡ true)
+      go ih (inl e) = (x, List·Memᴰ·head refl, e)
+      go ih (inr k) = (ih k .0, List·Memᴰ·tail (ih k .1), ih k .2)
+
+  pub member-some : (t : A → Bool) (l : List A) (a : A) → List·Memᴰ a l → t a ≡ true → some? t l ≡ true
+  unfolding some?
+  member-some t (x ∷ xs) a (List·Memᴰ·head e) h = or-intro-l (t x) (some? t xs) (ap t (sym e) ∙ h)
+  member-some t (x ∷ xs) a (List·Memᴰ·tail k) h = or-intro-r (t x) (some? t xs) (member-some t xs a k h)
 
   pub some-same : (t u : A → Bool) → ((a : A) → t a ≡ u a) → (l : List A) → some? t l ≡ some? u l
   unfolding some?

@@ -1,15 +1,15 @@
 -- A table of rows, in the order in which they are judged: the answer is the first row that applies, or 0 where none
 -- does.
 use mathlib.Core.Path.{_≡_, refl, sym, _∙_}
-use mathlib.Core.Bool.{Bool, true, false, not, _&&_, cond}
+use mathlib.Core.Bool.{Bool, true, false, not, _&&_, _||_, cond, false≢true}
 use mathlib.Core.List.{List, [], _∷_, _++_}
 use Prim.Native.Nat.{ℕ, _≤_}
 use native.Mathlib.Decide.{ℕ-discrete}
 use native.Mathlib.Omega.{arith}
 use lib.Dec.{leb, eqb}
-use borrow.Author.Tests.{leb-true, eqb-false, not-true}
-use Rattle.lemmas.specs.Tests.{_is_, _isnt_, and-l, and-r}
-use Rattle.lemmas.specs.Lists.{every}
+use borrow.Author.Tests.{leb-true, eq-eqb, eqb-false, not-true}
+use Rattle.lemmas.specs.Tests.{_is_, _isnt_, and-l, and-r, both, or-intro-l, or-intro-r}
+use Rattle.lemmas.specs.Lists.{every, some?}
 
 -- a row's number, and whether it applies
 pub record Row : Type 0 where
@@ -90,6 +90,21 @@ row-below n (r ∷ rs) h = go (r .applies) (row-below n rs
     go : (b : Bool) → firstRow rs ≤ n → cond b (r .row) (firstRow rs) ≤ n
     go true k = leb-true (r .row) n (and-l (leb (r .row) n) (every (λ (r : Row). leb (r .row) n) rs) h)
     go false k = k
+
+-- where the answer is n, a row of that number applies
+pub answer-applies : (n : ℕ) (rs : List Row) → (0 is n) ≡ false → firstRow rs ≡ n
+    → some? (λ (r : Row). r .row is n && r .applies) rs ≡ true
+unfolding firstRow some?
+answer-applies n [] z h = absurd (false≢true (sym z ∙ eq-eqb 0 n h))
+answer-applies n (r ∷ rs) z h = go (r .applies) refl h (answer-applies n rs z)
+  where
+    rest : Bool
+    rest = some? (λ (r : Row). r .row is n && r .applies) rs
+
+    go : (b : Bool) → r .applies ≡ b → cond b (r .row) (firstRow rs) ≡ n → (firstRow rs ≡ n → rest ≡ true)
+        → (r .row is n && r .applies || rest) ≡ true
+    go true e k ih = or-intro-l (r .row is n && r .applies) rest (both (eq-eqb (r .row) n k) e)
+    go false e k ih = or-intro-r (r .row is n && r .applies) rest (ih k)
 
 -- a number that no row of the table has is not the answer
 pub row-isnt : (n : ℕ) (rs : List Row) → every (λ (r : Row). r .row isnt n) rs ≡ true → (0 is n) ≡ false

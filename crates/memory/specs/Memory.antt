@@ -23,14 +23,14 @@ memoryPlaces = memoryCount * mostEntries
 
 -- ---- an entry's numbers, all but its time, in the order in which they stand one behind the other; and how many
 abbrev pub numbersOf : Entry → List ℕ
-numbersOf e = e .slot ∷ e .holder ∷ e .count ∷ []
+numbersOf e = e .slot ∷ e .holder ∷ e .count ∷ e .object ∷ []
 
 abbrev pub entrySize : ℕ
-entrySize = 3
+entrySize = 4
 
 -- an entry of its numbers and its time
 abbrev pub entryOf : List ℕ → ℕ → Entry
-entryOf l time = record { slot = getD l 0 0; holder = getD l 1 0; time = time; count = getD l 2 0 }
+entryOf l time = record { slot = getD l 0 0; holder = getD l 1 0; time = time; count = getD l 2 0; object = getD l 3 0 }
 
 abbrev pub noEntry : Entry
 noEntry = entryOf [] 0

@@ -19,8 +19,8 @@ pub const MEMORIES: usize = 5;
 
 pub const PLACES: usize = MEMORIES * MOST_ENTRIES;
 
-// How many numbers an entry has beside its time: slot, holder, count. And how many all places together.
-pub const ENTRY: usize = 3;
+// How many numbers an entry has beside its time: slot, holder, count, object. And how many all places together.
+pub const ENTRY: usize = 4;
 
 pub const ENTRIES: usize = PLACES * ENTRY;
 
@@ -42,6 +42,7 @@ fn entry_at(entries: &[u32], times: &[u64], i: usize) -> Entry
         holder: entries[at + 1],
         time: times[i],
         count: entries[at + 2],
+        object: entries[at + 3],
     }
 }
 
@@ -55,6 +56,7 @@ fn put_entry(entries: &mut [u32], times: &mut [u64], i: usize, e: Entry)
     entries[at] = e.slot;
     entries[at + 1] = e.holder;
     entries[at + 2] = e.count;
+    entries[at + 3] = e.object;
     times[i] = e.time;
 }
 
@@ -146,7 +148,11 @@ pub fn purge(entries: &mut [u32], times: &mut [u64], mark: u64) -> usize
 fn same_entry(a: Entry, b: Entry) -> bool
     ensures { λ r. ⌜ r ≡ sameEntry a b ⌝ }
 {
-    (a.slot == b.slot) & (a.holder == b.holder) & (a.time == b.time) & (a.count == b.count)
+    (a.slot == b.slot)
+        & (a.holder == b.holder)
+        & (a.time == b.time)
+        & (a.count == b.count)
+        & (a.object == b.object)
 }
 
 // Whether a memory holds the nonce of an entry.

@@ -45,7 +45,7 @@ known-refreshed n d clock (inl k) = go (decLt (n .entry .time + 5000) mark)
     go (no h) =
         inl (ap (some? (sameEntry (n .entry))) (List·getD-map (keep (lives mark)) (d .memories) (n .memory) [])
         ∙ some-keep (sameEntry (n .entry)) (lives mark) (getD (d .memories) (n .memory) [])
-        (λ e s. still-lives mark (n .entry) e h s) k)
+        (λ e s. still-lives mark (n .entry) e h s) ∙ k)
 
 -- a grant's own memory grows
 known-granted : (n : Nonce) (x : Fields) (d : Drive) (a : Scope Object) → memoryIndex (x .cred) < length (d .memories) → Known n d

@@ -165,7 +165,8 @@ fed s [] = []
 fed s (c ∷ cs) = record { frame = c .frame; clock = c .clock; row = answer s c .row } ∷ fed (step s c) cs
 
 -- ---- demand 3
--- "nonce memory, key slot, holder, time and count"
+-- "nonce memory, key slot, holder, time and count"; change 2 of document 02, which holds now: "What a list of grants never
+-- repeats is then nonce memory, slot, holder, time, count and object together."
 pub record Nonce : Type 0 where
   pub memory : ℕ
   pub entry : Entry
@@ -223,7 +224,9 @@ ledgerAfterCalls M s l before = ledger M l (fed s before)
 
 -- all of demand 3, of the list `calls` put to the state s, whose medium has M bytes and whose ledger starts as l
 pub record Demand3 (M : ℕ) (s : State) (l : Ledger) (calls : List Call) : Type 0 where
-  -- "No two grants in the whole list share nonce memory, key slot, holder, time and count."
+  -- "No two grants in the whole list share nonce memory, key slot, holder, time and count." Change 2 of document 02, which
+  -- holds now and lets grants for two objects share these: "What a list of grants never repeats is then nonce memory, slot,
+  -- holder, time, count and object together."
   pub noRepeat : (before between later : List Call) (c d : Call)
       → calls ≡ before ++ (c ∷ (between ++ (d ∷ later)))
       → Granted s before c

@@ -114,8 +114,10 @@ timeWindow = 5000
 abbrev pub lives : ℕ → Entry → Bool
 lives mark e = leb mark (e .time + timeWindow)
 
+-- two entries are one nonce: "slot, holder, T, count" and, by change 2 of document 02, "the credential's object too"
 unfoldable pub sameEntry : Entry → Entry → Bool
-sameEntry a b = a .slot is b .slot && a .holder is b .holder && a .time is b .time && a .count is b .count
+sameEntry a b =
+    a .slot is b .slot && a .holder is b .holder && a .time is b .time && a .count is b .count && a .object is b .object
 
 -- the mark rises, outlived entries go
 unfoldable pub refresh : ℕ → Drive → Drive

@@ -144,10 +144,12 @@ abbrev pub operationOf : Fields → Operation
 operationOf x = operation (x .req)
 
 -- ---- the nonce: what a grant enters, and in which of the five memories.
--- One memory for each partition (slots 0 to 2), a fifth for slots 3 and 4
+-- "A grant enters (slot, holder, T, count)." Change 2 of document 02: "Each memory entry, and so row 12's nonce, has the
+-- credential's object too." It is 0 for the partition
 unfoldable pub entry : Credential → Request → Entry
-entry c r = record { slot = c .slot; holder = c .holder; time = r .time; count = r .count }
+entry c r = record { slot = c .slot; holder = c .holder; time = r .time; count = r .count; object = c .object }
 
+-- "one for each partition (slots 0–2), a fifth for slots 3 and 4"
 unfoldable pub memoryIndex : Credential → ℕ
 memoryIndex c = cond (c .slot under 3) (c .partition) 4
 

@@ -1,4 +1,5 @@
--- Document 01, read in this order; of document 02 the shift report, behind the program whose input it reads.
+-- Document 01, read in this order; of document 02 the two heads, behind the demands, and the shift report, behind the
+-- program whose input it reads. What a change made of a rule stands at the rule.
 pub mod Frame
 pub mod Drive
 pub mod Scope
@@ -9,6 +10,7 @@ pub mod Gate
 pub mod Client
 pub mod Ledger
 pub mod Demands
+pub mod TwoHeads
 pub mod Story
 pub mod Program
 pub mod Report

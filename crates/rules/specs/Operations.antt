@@ -178,7 +178,7 @@ perform Delete s x m = performed [] (withPartition (deleted (x .cred .object) (s
 -- 7. Set key: "Result empty; lower keys keep their values"
 perform (SetKey target) s x m = performed [] (withKeys (keySet target x (s .keys)) s) m
 
--- "A grant enters (slot, holder, T, count)"
+-- "A grant enters (slot, holder, T, count)" and, by change 2 of document 02, the credential's object
 unfoldable pub remember : Fields → List Entry → List Entry
 remember x l = l ++ (entry (x .cred) (x .req) ∷ [])
 

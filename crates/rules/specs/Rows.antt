@@ -115,7 +115,8 @@ untimely mark T = T + timeWindow under mark || T over mark + timeWindow
 unfoldable pub row11 : Scope Object → Request → Bool
 row11 s r = untimely (s .highWater) (r .time)
 
--- 12. "Its memory holds the nonce."
+-- 12. "Its memory holds the nonce." Change 2 of document 02: "Each memory entry, and so row 12's nonce, has the
+-- credential's object too."
 unfoldable pub row12 : Scope Object → Credential → Request → Bool
 row12 s c r = some? (sameEntry (entry c r)) (s .memory)
 

@@ -65,10 +65,12 @@ pub struct Object {
     pub start: u32,
 }
 
-// An entry of a replay memory ("nonce memory" in document 01).
+// An entry of a replay memory ("nonce memory" in document 01): document 01's four numbers and, since change 2 of document 02, the
+// credential's object, 0 for the partition.
 pub struct Entry {
     pub slot: u32,
     pub holder: u32,
     pub time: u64,
     pub count: u32,
+    pub object: u32,
 }

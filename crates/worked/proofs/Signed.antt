@@ -1,5 +1,5 @@
 -- A frame that carries its right digest passes row 9, whatever HMAC gives: so the checker can compute a list of calls
--- without computing HMAC. Used by Worked.antt.
+-- without computing HMAC. Used by Worked.antt and Heads.antt.
 use mathlib.Core.Path.{_∙_, _≡_, ap, refl, sym}
 use mathlib.Core.Bool.{Bool, cond, false, not, true, true≢false}
 use mathlib.Core.List.{[], _++_, _∷_, List, map}

@@ -12,9 +12,8 @@ use Rattle.lemmas.specs.Lists.{same}
 use Rattle.rules.specs.declared.Credential.{Credential}
 use Rattle.rules.specs.declared.Request.{Request}
 use Rattle.rules.specs.Demands.{State}
-use Rattle.digest.specs.Hmac.{hmac}
 use Rattle.rules.specs.Drive.{Drive, format, Key, Keys}
-use Rattle.rules.specs.Frame.{credentialMagic, requestBytes, requestMagic}
+use Rattle.rules.specs.Frame.{requestMagic}
 use Rattle.rules.specs.Gate.{Call, gate, refused}
 use Rattle.rules.specs.Operations.{keyIn}
 use Rattle.rules.specs.Program.{answered, broken, callsIn, callsOf, digits, leftIn, leftOf, linesFrom, prints, program}
@@ -29,6 +28,21 @@ use Rattle.rules.specs.Report.{
   report,
   reportOf,
 }
+use Rattle.worked.proofs.Frames.{
+  ask,
+  begin,
+  by,
+  driveKey,
+  framesOpened,
+  masterKey,
+  partitionKey,
+  put,
+  seed,
+  setPartition,
+  setsKey,
+  setWorking,
+  workingKey,
+}
 use Rattle.worked.proofs.Signed.{
   AllKnown9,
   altered,
@@ -41,8 +55,8 @@ use Rattle.worked.proofs.Signed.{
   known-times,
   Known9,
   leaves,
-  TestCall,
   opened,
+  TestCall,
   pass,
   raw,
   rightDigest,
@@ -55,78 +69,10 @@ use Rattle.worked.proofs.Signed.{
   times,
 }
 
--- ---- the frames
--- slot, object, version, rights, least level, first and end; partition 0, expiry 9,000, holder 7
-by : ℕ → ℕ → ℕ → ℕ → ℕ → ℕ → ℕ → Credential
-by slot object version rights least first end = record {
-  magic = credentialMagic;
-  partition = 0;
-  slot = slot;
-  object = object;
-  version = version;
-  rights = rights;
-  least = least;
-  zero = 0;
-  first = first;
-  end = end;
-  expiry = 9000;
-  holder = 7;
-}
-
--- operation, level, count, A, B and n; time 100
-ask : ℕ → ℕ → ℕ → ℕ → ℕ → ℕ → Request
-ask operation level count A B n =
-    record {
-      magic = requestMagic;
-      operation = operation;
-      level = level;
-      time = 100;
-      count = count;
-      A = A;
-      B = B;
-      n =
-          n;
-    }
-
--- ---- the keys: the drive's partition key and working key 0 of partition 0, as operation 7 makes them
-masterKey : List ℕ
-masterKey = replicate 32 0
-
-driveKey : List ℕ
-driveKey = replicate 32 1
-
-seed : List ℕ
-seed = replicate 16 3
-
-setsKey : Request
-setsKey = ask 7 1 1 0 0 16
-
-partitionKey : List ℕ
-partitionKey = hmac driveKey (requestBytes setsKey ++ seed)
-
-workingKey : List ℕ
-workingKey = hmac partitionKey (requestBytes setsKey ++ seed)
-
 -- ---- the list
-begin : State
-begin =
-    let f = format (replicate 256 5) 1 masterKey driveKey in
-    record { drive = f .drive; medium = f .medium }
-
 -- a frame whose digest is never looked at, at a clock reading
 junk : ℕ → List ℕ → TestCall
 junk clock f = raw (record { frame = f; clock = clock; space = replicate 64 9 })
-
--- a frame under working key 0, at clock 100 with 64 bytes for the reply
-put : Credential → Request → List ℕ → TestCall
-put c r payload = signed workingKey c r payload 100 64
-
--- the partition key is set by the drive key, the working key by the partition key
-setPartition : Credential
-setPartition = by 3 0 0 64 1 0 0
-
-setWorking : Credential
-setWorking = by 2 0 0 64 1 0 0
 
 first : List TestCall
 first =
@@ -161,8 +107,7 @@ first =
 
 -- the definitions above, and all that the gate computes with
 unfoldable firstFrames : ℕ
-unfolding opened by ask masterKey driveKey seed setsKey partitionKey workingKey begin junk put setPartition setWorking
-    first
+unfolding framesOpened junk first
 firstFrames = 0
 
 first-known : AllKnown9 begin first

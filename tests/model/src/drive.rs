@@ -1,6 +1,7 @@
 //! "Drive state", the placing rule of operation 5, and format: rows 24 to 26.
 
 use crate::digest::LONGEST;
+use crate::records::{Credential, Request};
 
 pub type Key = [u8; 32];
 
@@ -18,13 +19,22 @@ pub struct Object {
     pub size: u32,
 }
 
-/// "A grant enters (slot, holder, T, count)."
+/// "A grant enters (slot, holder, T, count)." Change 2: "Each memory entry, and so row 12's nonce, has the credential's object
+/// too."
 #[derive(Clone, Debug, PartialEq, Eq)]
 pub struct Nonce {
     pub slot: u8,
     pub holder: u32,
     pub time: u64,
     pub count: u32,
+    pub object: u32, // 0 where the credential is for the partition
+}
+
+impl Nonce {
+    /// The one that these records carry.
+    pub fn of(c: &Credential, r: &Request) -> Nonce {
+        Nonce { slot: c.slot, holder: c.holder, time: r.time, count: r.count, object: c.object }
+    }
 }
 
 #[derive(Clone, Debug, PartialEq, Eq, Default)]
@@ -279,7 +289,7 @@ mod tests {
         assert!(!with(vec![Object { version: 2, ..object(1, 0, 5) }]).sound());
         assert!(with((1..=16).map(|i| object(i, i, 1)).collect()).sound());
         assert!(!with((1..=17).map(|i| object(i, i, 1)).collect()).sound());
-        let entry = Nonce { slot: 0, holder: 0, time: 0, count: 0 };
+        let entry = Nonce { slot: 0, holder: 0, time: 0, count: 0, object: 0 };
         let mut drive = with(vec![]);
         drive.fifth = vec![entry.clone(); 64];
         assert!(drive.sound());

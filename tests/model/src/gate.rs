@@ -55,7 +55,8 @@ fn rows_that_apply(drive: &Drive, frame: &[u8], space: usize) -> Vec<u8> {
     let nothing = Vec::new();
     let memory = drive.memory(c.slot, c.partition).unwrap_or(&nothing);
     let key = drive.key(c.slot, c.partition);
-    let nonce = Nonce { slot: c.slot, holder: c.holder, time: r.time, count: r.count };
+    // Change 2: "Each memory entry, and so row 12's nonce, has the credential's object too."
+    let nonce = Nonce::of(&c, &r);
 
     // "Sums in rules are whole numbers and never wrap."
     let mark = drive.mark as u128;
@@ -178,9 +179,9 @@ fn grant(drive: &mut Drive, medium: &mut [u8], frame: &[u8]) -> Vec<u8> {
         _ => unreachable!(),
     };
 
-    // "A grant enters (slot, holder, T, count)."
-    let nonce = Nonce { slot: c.slot, holder: c.holder, time: r.time, count: r.count };
-    drive.memory_mut(c.slot, c.partition).push(nonce);
+    // "A grant enters (slot, holder, T, count)." Change 2: "Each memory entry, and so row 12's nonce, has the credential's object
+    // too."
+    drive.memory_mut(c.slot, c.partition).push(Nonce::of(&c, &r));
 
     // "Reply: mark 4C 41, operation, level, result length (four bytes), result; at level 2, then HMAC under the credential key
     // over credential, request, those 8 bytes and result."
@@ -196,7 +197,7 @@ fn grant(drive: &mut Drive, medium: &mut [u8], frame: &[u8]) -> Vec<u8> {
 }
 
 #[cfg(test)]
-mod tests {
+pub(crate) mod tests {
     use super::*;
     use crate::client::{build, issue};
 
@@ -211,7 +212,7 @@ mod tests {
         (drive, medium)
     }
 
-    fn credential() -> Credential {
+    pub(crate) fn credential() -> Credential {
         Credential {
             mark: CREDENTIAL_MARK,
             partition: 0,
@@ -228,14 +229,22 @@ mod tests {
         }
     }
 
-    fn request(operation: u8, a: u32, b: u32) -> Request {
-        let n = if operation == WRITE { b } else { 0 };
+    pub(crate) fn request(operation: u8, a: u32, b: u32) -> Request {
+        let n = match operation {
+            WRITE => b,
+            SET_KEY => 16,
+            _ => 0,
+        };
         Request { mark: REQUEST_MARK, operation, level: 2, time: 10_000, count: 0, a, b, n }
     }
 
-    fn frame(c: &Credential, r: &Request, data: &[u8]) -> Vec<u8> {
+    pub(crate) fn frame(c: &Credential, r: &Request, data: &[u8]) -> Vec<u8> {
+        frame_under(&[5; 32], c, r, data)
+    }
+
+    fn frame_under(key: &Key, c: &Credential, r: &Request, data: &[u8]) -> Vec<u8> {
         let mut record = [0; 36];
-        let (row, key) = issue(&[5; 32], c, &mut record);
+        let (row, key) = issue(key, c, &mut record);
         assert_eq!(row, 0);
         let mut space = vec![0; 96 + data.len()];
         assert_eq!(build(&record, &r.bytes(), data, &key, &mut space), (0, 96 + data.len()));
@@ -278,6 +287,136 @@ mod tests {
         let f = frame(&credential(), &request(LOOK, 0, 0), &[]);
         let mut put = |clock| gate(&mut drive, &mut medium, &f, clock, &mut [0; 200]).0;
         assert_eq!([put(10_000), put(10_000), put(15_000), put(15_001)], [0, 12, 12, 11]);
+    }
+
+    /// The drive with a second object for a second head, and frames that differ in little but the object.
+    struct Heads {
+        drive: Drive,
+        medium: Vec<u8>,
+    }
+
+    impl Heads {
+        fn new() -> Heads {
+            let (mut drive, medium) = drive();
+            drive.partitions[0].last_given = 3;
+            drive.partitions[0].objects.push(Object { number: 5, version: 3, start: 0, size: 30 });
+            Heads { drive, medium }
+        }
+
+        fn put(&mut self, frame: &[u8], clock: u64) -> u8 {
+            gate(&mut self.drive, &mut self.medium, frame, clock, &mut [0; 200]).0
+        }
+
+        /// A request on an object, or on the partition.
+        fn ask(&mut self, object: u32, r: &Request, clock: u64) -> u8 {
+            let version = self.drive.partitions[0].present_version(object).unwrap();
+            let c = Credential { object, version, ..credential() };
+            self.put(&frame(&c, r, &vec![7; r.n as usize]), clock)
+        }
+
+        /// Looks of this time, with count 0: the row of each.
+        fn looks<const N: usize>(&mut self, objects: [u32; N], time: u64, clock: u64) -> [u8; N] {
+            objects.map(|object| self.ask(object, &Request { time, ..request(LOOK, 0, 0) }, clock))
+        }
+
+        /// Object and time of each entry of partition 0, in order.
+        fn entries(&self) -> Vec<(u32, u64)> {
+            self.drive.partitions[0].memory.iter().map(|e| (e.object, e.time)).collect()
+        }
+    }
+
+    /// Change 2: "Two heads now run as one holder, each counting from zero, so frames for two objects pass for repeats." They no
+    /// longer do; a second frame for the same object does, whatever it asks and whatever version it has.
+    #[test]
+    fn two_heads_under_one_holder_number() {
+        let mut heads = Heads::new();
+        assert_eq!(heads.looks([9, 5, 9, 5], 10_000, 10_000), [0, 0, 12, 12]);
+        assert_eq!(heads.entries(), [(9, 10_000), (5, 10_000)]);
+        assert_eq!(heads.ask(9, &request(WRITE, 0, 3), 10_000), 12);
+        let raise = Request { count: 1, ..request(RAISE, 0, 0) };
+        assert_eq!([heads.ask(9, &raise, 10_000), heads.ask(5, &raise, 10_000)], [0, 0]);
+        assert_eq!(heads.looks([9, 5], 10_000, 10_000), [12, 12]);
+    }
+
+    /// Row 12 comes before row 14, and a recreated object is the same object here.
+    #[test]
+    fn an_object_that_went_is_still_in_its_entry() {
+        let mut heads = Heads::new();
+        assert_eq!(heads.looks([9], 10_000, 10_000), [0]);
+        assert_eq!(heads.ask(9, &Request { count: 1, ..request(DELETE, 0, 0) }, 10_000), 0);
+        let look = |object| frame(&Credential { object, ..credential() }, &request(LOOK, 0, 0), &[]);
+        assert_eq!([heads.put(&look(9), 10_000), heads.put(&look(8), 10_000)], [12, 14]);
+        assert_eq!(heads.ask(0, &Request { count: 2, ..request(CREATE, 9, 4) }, 10_000), 0);
+        assert_eq!(heads.ask(9, &request(LOOK, 0, 0), 10_000), 12);
+        assert_eq!(heads.ask(9, &Request { count: 2, ..request(LOOK, 0, 0) }, 10_000), 0);
+    }
+
+    /// The partition is object 0: a nonce of its own beside each object's, one for all that is asked of the partition.
+    #[test]
+    fn the_partition_beside_an_object() {
+        let mut heads = Heads::new();
+        assert_eq!(heads.ask(0, &request(RAISE, 0, 0), 10_000), 0);
+        assert_eq!(heads.looks([5, 0, 9, 5], 10_000, 10_000), [0, 12, 0, 12]);
+        assert_eq!(heads.ask(0, &request(CREATE, 7, 4), 10_000), 12);
+        assert_eq!(heads.entries(), [(0, 10_000), (5, 10_000), (9, 10_000)]);
+    }
+
+    /// Two partitions are two memories, whatever the object.
+    #[test]
+    fn the_same_object_number_in_two_partitions() {
+        let mut heads = Heads::new();
+        let mut other = heads.drive.partitions[0].clone();
+        other.working[0] = Some([5; 32]);
+        heads.drive.partitions[2] = other;
+        let look = frame(&Credential { partition: 2, ..credential() }, &request(LOOK, 0, 0), &[]);
+        assert_eq!(heads.looks([9, 5], 10_000, 10_000), [0, 0]);
+        assert_eq!([heads.put(&look, 10_000), heads.put(&look, 10_000)], [0, 12]);
+        assert_eq!(heads.drive.partitions[2].memory.len(), 1);
+    }
+
+    /// Frames of slots 2 to 4 are on object 0: what they set is no part of the nonce, and the slot is.
+    #[test]
+    fn slots_over_1_have_object_0() {
+        let mut heads = Heads::new();
+        heads.drive.partitions[0].key = Some([6; 32]);
+        let mut set = |slot: u8, a| {
+            let c = Credential { slot, object: 0, version: 0, ..credential() };
+            let key = [[6; 32], [1; 32], [0; 32]][slot as usize - 2];
+            let row = heads.put(&frame_under(&key, &c, &request(SET_KEY, a, 0), &[7; 16]), 10_000);
+            let memory = heads.drive.memory(slot, 0).unwrap();
+            assert!(memory.iter().all(|e| e.object == 0));
+            (row, memory.len())
+        };
+        assert_eq!([set(3, 1), set(3, 2), set(4, 0)], [(0, 1), (12, 1), (0, 2)]);
+        assert_eq!([set(2, 1), set(2, 0)], [(0, 1), (12, 1)]);
+        assert_eq!(heads.looks([0, 9], 10_000, 10_000), [0, 0]);
+    }
+
+    /// Entries go, and those that stay keep their objects.
+    #[test]
+    fn outlived_entries_leave_the_objects_of_the_others() {
+        let mut heads = Heads::new();
+        assert_eq!(heads.looks([0], 6_000, 10_000), [0]);
+        assert_eq!(heads.looks([9], 9_000, 10_000), [0]);
+        assert_eq!(heads.looks([0], 7_000, 10_000), [0]);
+        assert_eq!(heads.looks([5], 9_000, 10_000), [0]);
+        assert_eq!(heads.looks([9, 5, 0], 6_000, 11_000), [0, 0, 12]);
+        assert_eq!(heads.put(&[], 12_001), 2);
+        assert_eq!(heads.entries(), [(9, 9_000), (5, 9_000)]);
+        assert_eq!(heads.looks([9, 5, 0, 0], 9_000, 14_000), [12, 12, 0, 12]);
+        assert_eq!(heads.looks([9, 5, 0], 9_000, 14_001), [11, 11, 11]);
+        assert_eq!(heads.entries(), []);
+    }
+
+    /// Row 22's 64 are entries, also where they differ in nothing but the object.
+    #[test]
+    fn a_memory_full_of_one_count() {
+        let mut heads = Heads::new();
+        let entry = |object| Nonce { object, ..Nonce::of(&credential(), &request(LOOK, 0, 0)) };
+        heads.drive.partitions[0].memory = (10..73).map(entry).collect();
+        assert_eq!(heads.looks([9, 5, 9], 10_000, 10_000), [0, 22, 12]);
+        assert_eq!(heads.drive.partitions[0].memory.len(), MOST_ENTRIES);
+        assert_eq!(heads.looks([5], 15_001, 15_001), [0]);
     }
 
     #[test]

@@ -12,7 +12,7 @@ pub struct Ledger {
     master: Key,
     drive: Key,
     partitions: Vec<Page>,
-    grants: HashSet<(u8, u8, u32, u64, u32)>, // every grant's nonce memory, slot, holder, time and count
+    grants: HashSet<(u8, u8, u32, u64, u32, u32)>, // every grant's nonce memory, slot, holder, time, count and object
 }
 
 #[derive(Clone)]
@@ -50,9 +50,10 @@ impl Ledger {
             s => self.partitions[c.partition as usize].working[s as usize],
         };
 
-        // "No two grants in the whole list share nonce memory, key slot, holder, time and count."
+        // "No two grants in the whole list share nonce memory, key slot, holder, time and count." Change 2: "What a list of grants
+        // never repeats is then nonce memory, slot, holder, time, count and object together."
         let memory = if c.slot >= 3 { 4 } else { c.partition };
-        let fresh = self.grants.insert((memory, c.slot, c.holder, r.time, r.count));
+        let fresh = self.grants.insert((memory, c.slot, c.holder, r.time, r.count, c.object));
         assert!(fresh, "a nonce is granted twice");
 
         // "Rights, expiry, range, key and version are kept when none of rows 8–10 and 13–17 applies".
@@ -130,5 +131,41 @@ impl Ledger {
             }
         }
         assert!(drive.sound());
+    }
+}
+
+#[cfg(test)]
+mod tests {
+    use super::*;
+    use crate::gate::tests::{credential, frame, request};
+
+    /// Feeds looks of the same slot, holder, time and count, granted, at these objects of partitions 0 and 1.
+    fn granted(looks: &[(u8, u32)]) {
+        let mut ledger = Ledger::new(400, 2, [0; 32], [1; 32]);
+        for page in &mut ledger.partitions {
+            page.working[0] = Some([5; 32]);
+            page.objects = [5, 9].map(|number| (Object { number, version: 2, start: number, size: 1 }, vec![0])).to_vec();
+        }
+        for &(partition, object) in looks {
+            let c = Credential { partition, object, ..credential() };
+            ledger.call(&frame(&c, &request(LOOK, 0, 0), &[]), 10_000, 0, &[]);
+        }
+    }
+
+    #[test]
+    fn objects_and_memories_tell_nonces_apart() {
+        granted(&[(0, 5), (0, 9), (0, 0), (1, 9), (1, 0), (1, 5)]);
+    }
+
+    #[test]
+    #[should_panic(expected = "a nonce is granted twice")]
+    fn an_object_repeats_its_nonce() {
+        granted(&[(0, 5), (0, 9), (1, 5), (0, 5)]);
+    }
+
+    #[test]
+    #[should_panic(expected = "a nonce is granted twice")]
+    fn the_partition_repeats_its_nonce() {
+        granted(&[(0, 0), (0, 9), (0, 0)]);
     }
 }

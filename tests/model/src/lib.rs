@@ -2,6 +2,7 @@
 //!
 //! It shares no line with the proved drive and was not written from its code or definitions. It is slow, allocates freely and is
 //! meant to be read beside the paper: what stands in quotation marks is the paper's own sentence, and below it is what it does.
+//! Where document 02 asks for something else, its sentence stands there too, with the change's number.
 //!
 //! Read in this order: [`digest`], [`records`] (layouts, rows 3 to 7), [`drive`] (state, placing rule, rows 24 to 26), [`gate`]
 //! (rows 1 to 23 and the operations), [`client`] (issuer, builder, reply check: rows 26, 28 to 30), [`ledger`] (demand 3's),

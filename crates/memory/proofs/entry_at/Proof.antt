@@ -12,7 +12,7 @@ use Rattle.memory.proofs.entry_at.Tie as tie
 
 returns : tie.Need-returns
 returns c =
-    let start = c .before .before .before .before in
+    let start = c .before .before .before .before .before in
     let a = start .args in
     let es = a .entries .now in
     let ts = a .times .now in
@@ -22,6 +22,7 @@ returns c =
       getD-part es at entrySize 0 (omega arith),
       getD-part es at entrySize 1 (omega arith),
       getD-part es at entrySize 2 (omega arith),
+      getD-part es at entrySize 3 (omega arith),
       add-zero at,
     ) refl)
 
@@ -30,4 +31,5 @@ entry-at-spec =
     tie.close
     (tie.spec
     (λ c. search needs) (λ c. search needs) (λ c. search needs) (λ c. search needs) (λ c. search needs) (λ c. search needs)
-    (λ c. search needs) (λ c. search needs) (λ c. search needs) (λ c. search needs) (λ c. search needs) returns)
+    (λ c. search needs) (λ c. search needs) (λ c. search needs) (λ c. search needs) (λ c. search needs) (λ c. search needs)
+    (λ c. search needs) (λ c. search needs) returns)

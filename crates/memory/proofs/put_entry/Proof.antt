@@ -19,7 +19,8 @@ returns c =
     let numbers = numbersOf (c .args .e) in
     let second : at + 1 ≡ suc at = omega arith in
     let third : at + 2 ≡ suc (suc at) = omega arith in
-    (rw (second, third) (sets-eq numbers es at (c .pre .0) ∙ append-assoc (take at es) numbers (drop (at + entrySize) es)), refl)
+    let fourth : at + 3 ≡ suc (suc (suc at)) = omega arith in
+    (rw (second, third, fourth) (sets-eq numbers es at (c .pre .0) ∙ append-assoc (take at es) numbers (drop (at + entrySize) es)), refl)
 
 pub put-entry-spec : {M : Type 1} → statement M
 put-entry-spec =
@@ -27,4 +28,5 @@ put-entry-spec =
     (tie.spec
     (λ c. search needs) (λ c. search needs) (λ c. search needs) (λ c. search needs) (λ c. search needs)
     (λ c. rw length-set (search needs)) (λ c. search needs) (λ c. search needs) (λ c. rw (length-set, length-set) (search needs))
+    (λ c. search needs) (λ c. search needs) (λ c. rw (length-set, length-set, length-set) (search needs))
     (λ c. search needs) (λ c. search needs) (λ c. search needs) (λ c. search needs) returns)

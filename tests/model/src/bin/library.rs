@@ -1,5 +1,6 @@
 //! `library SEED CALLS OUT.in OUT.expected [big]`: random calls for the drive's library itself, with media, first versions, keys and
-//! reply spaces of many kinds, and what every call must leave behind. Prints how often each row is in it.
+//! reply spaces of many kinds, and what every call must leave behind. Prints how often each row is in it, and how often a frame had a
+//! twin.
 //!
 //! # The trace, OUT.in
 //!

@@ -137,8 +137,14 @@ impl Traffic<'_> {
 
         let slot = if set.is_empty() { self.rng.below(2) as u8 } else { self.rng.pick(&set) };
         let some = |rng: &mut Rng| if objects.is_empty() { 1 } else { rng.pick(objects).number };
+        let mut entered: Vec<u32> = vec![]; // objects that a repeat may be for
+        if wants.contains(&12) {
+            entered = self.living(slot, p, mark).iter().map(|e| e.object).collect();
+            entered.retain(|o| partition.find(*o).is_some() || (*o == 0 && matches!(op, LOOK | RAISE)));
+        }
         let object = match op {
             CREATE => 0,
+            _ if !entered.is_empty() => self.rng.pick(&entered),
             LOOK | RAISE if self.rng.chance(40) => 0,
             _ => some(&mut self.rng),
         };
@@ -235,6 +241,27 @@ impl Traffic<'_> {
             1 => self.rng.pick(&[u32::MAX, 0x8000_0000, 256]),
             _ => d.r.count,
         };
+        if self.rng.chance(10) {
+            self.become_a_twin(d, mark);
+        }
+    }
+
+    /// Entries of a slot and its memory that live at this mark.
+    pub(super) fn living(&self, slot: u8, partition: u8, mark: u64) -> Vec<Nonce> {
+        let mut entries = self.drive.memory(slot, partition).cloned().unwrap_or_default();
+        entries.retain(|e| e.slot == slot && e.time as u128 + 5_000 >= mark as u128);
+        entries
+    }
+
+    /// The nonce of another object's entry, where this object has not used it yet.
+    fn become_a_twin(&mut self, d: &mut Draft, mark: u64) {
+        let entries = self.living(d.c.slot, d.c.partition, mark);
+        let used = |e: &Nonce| entries.contains(&Nonce { object: d.c.object, ..e.clone() });
+        let free: Vec<&Nonce> = entries.iter().filter(|e| !used(e)).collect();
+        if !free.is_empty() {
+            let e = self.rng.pick(&free);
+            (d.c.holder, d.r.time, d.r.count) = (e.holder, e.time, e.count);
+        }
     }
 
     /// Signs a draft with the present keys, and damages it last.

@@ -1,5 +1,6 @@
 //! Episodes: the short stories that random calls are made of.
 
+use super::drafts::Draft;
 use super::{Clock, Taste, Traffic};
 use crate::drive::*;
 use crate::records::*;
@@ -21,7 +22,7 @@ impl Traffic<'_> {
             }
             self.taste = Taste::balanced();
             let p = self.rng.below(4) as u8;
-            match self.rng.weighted(&[50, 6, 9, 6, 9, 9, 9, 6, 3, 6]) {
+            match self.rng.weighted(&[50, 6, 9, 6, 9, 9, 9, 6, 3, 6, 9]) {
                 0 => self.balanced(),
                 1 => {
                     let place = self.rng.below(5) as u8;
@@ -34,7 +35,8 @@ impl Traffic<'_> {
                 6 => self.late_frames(),
                 7 => self.two_part_read(p),
                 8 => self.leap(),
-                _ => self.last_versions(p),
+                9 => self.last_versions(p),
+                _ => self.two_heads(p),
             }
         }
         self.finale();
@@ -119,13 +121,14 @@ impl Traffic<'_> {
     fn near_nonce(&mut self) {
         let Some(frame) = self.some_granted() else { return };
         let mut d = Self::draft_of(&frame);
-        match self.rng.below(7) {
+        match self.rng.below(9) {
             0 => d.c.holder ^= 1 << self.rng.below(32),
             1 => d.r.count ^= 1 << self.rng.below(32),
             2 => d.r.time = d.r.time.wrapping_add(1),
             3 => d.r.time = d.r.time.wrapping_sub(1),
             4 if d.c.slot < 2 => d.c.slot = 1 - d.c.slot,
             5 if d.c.slot == 3 => (d.c.slot, d.r.a) = (4, 0),
+            6 | 7 => self.look_elsewhere(&mut d),
             _ => d.r.level = 1 + d.r.level % 2, // the same nonce
         }
         if d.r.operation <= 6 {
@@ -137,6 +140,18 @@ impl Traffic<'_> {
         }
         let clock = self.clock();
         self.plain_at(clock, &d);
+    }
+
+    /// A look at another object, or at the partition, in the place of what a draft under a working key asks.
+    fn look_elsewhere(&mut self, d: &mut Draft) {
+        let objects = &self.drive.partitions[d.c.partition as usize].objects;
+        let elsewhere: Vec<u32> = objects.iter().map(|o| o.number).chain([0]).filter(|o| *o != d.c.object).collect();
+        if d.c.slot < 2 && !elsewhere.is_empty() {
+            d.c.object = self.rng.pick(&elsewhere);
+            d.c.rights |= 1 << (LOOK - 1);
+            (d.r.operation, d.r.a, d.r.b, d.r.n) = (LOOK, 0, 0, 0);
+            d.data.clear();
+        }
     }
 
     fn send_held(&mut self) {
@@ -203,7 +218,7 @@ impl Traffic<'_> {
     }
 
     /// Sees to it that a partition has its key and a black key.
-    fn ready(&mut self, p: u8) {
+    pub(super) fn ready(&mut self, p: u8) {
         let mark = self.drive.mark;
         if self.drive.partitions[p as usize].key.is_none() && self.may_set(3, 0, p as u32) {
             let d = self.plain(mark, SET_KEY, 0, 3, 0, p as u32, 0);
@@ -336,7 +351,7 @@ impl Traffic<'_> {
         }
     }
 
-    fn new_number(&mut self, p: u8) -> u32 {
+    pub(super) fn new_number(&mut self, p: u8) -> u32 {
         loop {
             let number = 1 + self.rng.below(40) as u32;
             if self.drive.partitions[p as usize].find(number).is_none() {
@@ -346,7 +361,7 @@ impl Traffic<'_> {
     }
 
     /// One plain operation under the black key, a tick later.
-    fn simply(&mut self, op: u8, p: u8, object: u32, a: u32, b: u32) -> u8 {
+    pub(super) fn simply(&mut self, op: u8, p: u8, object: u32, a: u32, b: u32) -> u8 {
         let clock = self.tick();
         let d = self.plain(self.drive.mark.max(clock), op, p, 0, object, a, b);
         self.plain_at(clock, &d)

@@ -1,8 +1,11 @@
 //! Random calls that know the drive's state and its keys, so that they can aim at every row.
 //!
 //! A call starts as a draft that no row refuses; then it is spoiled for none, one, two or more rows, signed, and put to the model.
-//! Around that stand short stories: full memories, full partitions, keys set and set back, late frames, recreated objects, the
-//! first and the last milliseconds. Beside the drive a [`Ledger`] is kept, and every call is held to demand 3.
+//! Around that stand short stories: full memories, full partitions, keys set and set back, late frames, recreated objects, heads
+//! under one holder number, the first and the last milliseconds. Beside the drive a [`Ledger`] is kept, and every call is held to
+//! demand 3.
+//!
+//! An entry is a frame's *twin* when it is in the frame's memory and is its nonce in all but the object.
 
 use crate::drive::*;
 use crate::gate::gate_with_rows;
@@ -14,6 +17,7 @@ use std::mem::replace;
 
 mod drafts;
 mod episodes;
+mod heads;
 mod spoil;
 
 /// Bytes after the medium that a test may lend too much of, and that nobody may write.
@@ -34,6 +38,7 @@ pub struct Done<'a> {
     pub length: usize,
     pub space: &'a [u8],
     pub medium: &'a [u8], // with its guard bytes
+    pub twins: &'a [u32], // the objects of the frame's twins, as the memory was when the rows were judged
 }
 
 #[derive(Clone, Copy)]
@@ -136,7 +141,8 @@ impl<'a> Traffic<'a> {
         let (rows, length) =
             gate_with_rows(&mut self.drive, &mut self.medium[..lent], &call.frame, clock, &mut reply);
         let row = rows.first().copied().unwrap_or(0);
-        (self.sink)(&Done { call: &call, rows: &rows, row, length, space: &reply, medium: &self.medium });
+        let twins = twins(&self.drive, &call.frame);
+        (self.sink)(&Done { call: &call, rows: &rows, row, length, space: &reply, medium: &self.medium, twins: &twins });
         if row == 1 {
             assert_eq!(self.drive, before);
         } else if let Some(ledger) = &mut self.ledger {
@@ -233,6 +239,7 @@ impl<'a> Traffic<'a> {
         let mut draft = self.draft(mark, wants);
         let mut order = wants.to_vec();
         self.rng.shuffle(&mut order);
+        order.sort_by_key(|row| *row == 12); // last: other rows change slot and object, and the nonce has them
         for row in order {
             self.spoil(&mut draft, row, mark);
         }
@@ -293,15 +300,36 @@ impl<'a> Traffic<'a> {
     }
 }
 
-/// How often each row was the answer, and how often another row applied beside it.
+/// The nonce of a frame that has one.
+fn nonce_of(frame: &[u8]) -> Nonce {
+    Nonce::of(&Credential::read(&frame[..36]), &Request::read(&frame[36..64]))
+}
+
+/// The objects of a frame's twins in the drive that a call returned. Its own entry, if it was granted, is not among them.
+fn twins(drive: &Drive, frame: &[u8]) -> Vec<u32> {
+    if frame.len() < 96 {
+        return vec![];
+    }
+    let nonce = nonce_of(frame);
+    let memory = drive.memory(nonce.slot, frame[2]).map_or(&[][..], |m| &m[..]);
+    let alike = memory.iter().filter(|e| Nonce { object: nonce.object, ..(*e).clone() } == nonce);
+    alike.map(|e| e.object).filter(|o| *o != nonce.object).collect()
+}
+
+/// How often each row was the answer, how often another row applied beside it, and how often the frame had a twin.
 pub struct Tally {
     pub rows: [u64; 31],
     pub pairs: [[u64; 31]; 31],
+    pub beside_a_twin: [u64; 3],
 }
+
+/// What [`Tally::beside_a_twin`] counts.
+const BESIDE_A_TWIN: [&str; 3] =
+    ["grants beside a twin", "grants beside a twin, one of the two for the partition", "repeats beside a twin"];
 
 impl Default for Tally {
     fn default() -> Tally {
-        Tally { rows: [0; 31], pairs: [[0; 31]; 31] }
+        Tally { rows: [0; 31], pairs: [[0; 31]; 31], beside_a_twin: [0; 3] }
     }
 }
 
@@ -311,14 +339,24 @@ impl Tally {
         for beside in done.rows.iter().skip(1) {
             self.pairs[done.row as usize][*beside as usize] += 1;
         }
+        if !done.twins.is_empty() {
+            let of_the_partition = done.twins.contains(&0) || nonce_of(&done.call.frame).object == 0;
+            self.beside_a_twin[0] += (done.row == 0) as u64;
+            self.beside_a_twin[1] += (done.row == 0 && of_the_partition) as u64;
+            self.beside_a_twin[2] += (done.row == 12) as u64;
+        }
     }
 
-    /// "row R: N" lines, and beside which other rows each was the answer, so that the lowest had to win.
+    /// "row R: N" lines, how often there was a twin, and beside which other rows each row was the answer, so that the lowest had to
+    /// win.
     pub fn print(&self) {
         for (row, n) in self.rows.iter().enumerate() {
             if *n > 0 {
                 println!("row {row}: {n}");
             }
+        }
+        for (what, n) in BESIDE_A_TWIN.iter().zip(self.beside_a_twin) {
+            println!("{what}: {n}");
         }
         let met = self.pairs.iter().flatten().filter(|n| **n > 0).count();
         println!("pairs of an answer and another row that applied: {met}");
@@ -347,6 +385,7 @@ mod tests {
         for row in (0..=22).filter(|r| *r != 1 && *r != 21) {
             assert!(tally.rows[row] > 0, "row {row} is not met");
         }
+        assert!(tally.beside_a_twin.iter().all(|n| *n > 0), "{BESIDE_A_TWIN:?}: {:?}", tally.beside_a_twin);
         assert_eq!(tally.rows.iter().sum::<u64>(), 8_000);
     }
 
@@ -365,5 +404,20 @@ mod tests {
         for row in [0, 1, 21, 23] {
             assert!(tally.rows[row] > 0, "row {row} is not met");
         }
+        assert!(tally.beside_a_twin.iter().all(|n| *n > 0), "{BESIDE_A_TWIN:?}: {:?}", tally.beside_a_twin);
+    }
+
+    /// Twins are entries of the same memory that differ in the object, and in nothing else.
+    #[test]
+    fn what_a_twin_is() {
+        let (mut drive, frame) = (Drive::default(), vec![0; 96]);
+        let own = nonce_of(&frame);
+        let other = |object| Nonce { object, ..own.clone() };
+        let (counted, gold) = (Nonce { count: 1, ..other(5) }, Nonce { slot: 1, ..other(6) });
+        drive.partitions[0].memory = vec![own.clone(), other(7), counted, other(9), gold];
+        drive.partitions[1].memory = vec![other(8)];
+        drive.fifth = vec![other(4)];
+        assert_eq!(twins(&drive, &frame), [7, 9]);
+        assert_eq!(twins(&drive, &frame[1..]), []);
     }
 }

@@ -143,9 +143,8 @@ impl Traffic<'_> {
                 }
             }
             12 => {
-                let memory = self.drive.memory(d.c.slot, d.c.partition % 4).cloned().unwrap_or_default();
-                let lives = |e: &&Nonce| e.slot == d.c.slot && e.time as u128 + 5_000 >= mark as u128;
-                let same: Vec<&Nonce> = memory.iter().filter(lives).collect();
+                let mut same = self.living(d.c.slot, d.c.partition % 4, mark);
+                same.retain(|e| e.object == d.c.object);
                 if !same.is_empty() {
                     let e = self.rng.pick(&same);
                     (d.c.holder, d.r.time, d.r.count) = (e.holder, e.time, e.count);
@@ -157,11 +156,16 @@ impl Traffic<'_> {
                 }
             }
             14 => {
-                let mut number = match any % 3 {
+                let mut number = match any % 4 {
                     0 => self.past.iter().rev().find(|(p, ..)| *p == d.c.partition).map_or(40, |(_, o, _)| *o),
                     1 => {
                         let other = &self.drive.partitions[(any >> 8) as usize % 4].objects;
                         other.first().map_or(u32::MAX, |o| o.number)
+                    }
+                    2 => {
+                        // One that went and left an entry: row 12 may apply too.
+                        let entries = self.living(d.c.slot, d.c.partition % 4, mark);
+                        entries.iter().rev().map(|e| e.object).find(|o| partition.find(*o).is_none()).unwrap_or(41)
                     }
                     _ => (any >> 16) as u32,
                 };
