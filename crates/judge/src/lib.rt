@@ -16,6 +16,7 @@ ghost use Rattle.judge.specs.Judge.{placementFor, presentVersionIn, time
 use lemmas::pick;
 use placing::Place;
 use rules::Credential;
+use rules::EXTENT_STEP;
 use rules::Entry;
 use rules::LAST_VERSION;
 use rules::MOST_ENTRIES;
@@ -55,7 +56,7 @@ pub fn placement(table: &[u32], quarter: u32, r: Request) -> Place
     if r.operation != 5 {
         return Place::Nowhere;
     }
-    placing::best_fit(1, quarter, r.B, table)
+    placing::best_fit(EXTENT_STEP, quarter, r.B, table)
 }
 
 // Whether there is no place for a new extent.

@@ -1,7 +1,7 @@
 -- Tests on numbers, worded as rules word them, and what a test that passed or failed tells.
 use mathlib.Core.Path.{_≡_, refl}
 use mathlib.Core.Logic.{_⊎_, inl, inr}
-use mathlib.Core.Bool.{Bool, true, false, not, _&&_, _||_, true≢false, false≢true}
+use mathlib.Core.Bool.{Bool, true, false, not, _&&_, _||_, cond, true≢false, false≢true}
 use mathlib.Core.List.{List, [], _∷_}
 use Prim.Native.Nat.{ℕ, zero, suc}
 use native.Mathlib.Omega.{arith}
@@ -57,6 +57,10 @@ pub or-cases : (a b : Bool) → (a || b) ≡ true → (a ≡ true) ⊎ (b ≡ tr
 or-cases true b e = inl refl
 or-cases false b e = inr e
 
+pub or-only : (a : Bool) → (a || false) ≡ true → a ≡ true
+or-only true e = refl
+or-only false e = e
+
 pub or-intro-l : (a b : Bool) → a ≡ true → (a || b) ≡ true
 or-intro-l a b e = rw e refl
 
@@ -67,6 +71,11 @@ or-intro-r false b e = e
 pub bool-cases : (b : Bool) → (b ≡ true) ⊎ (b ≡ false)
 bool-cases true = inl refl
 bool-cases false = inr refl
+
+-- what both branches have, the one that is taken has
+pub by-branches : {A : Type 0} (P : A → Type 0) (b : Bool) {x y : A} → P x → P y → P (cond b x y)
+by-branches P true p q = p
+by-branches P false p q = q
 
 -- ---- a list of tests: any of them passes. It computes to t || u || ..
 abbrev pub anyFrom : Bool → List Bool → Bool

@@ -2,7 +2,7 @@
 // the quarter's start, then the one at each extent's end, against the best so far. In 64 bits, so no sum wraps.
 ghost use mathlib.Core.Path.{_≡_};
 ghost use mathlib.Core.Bool.{_||_, cond};
-ghost use Prim.Native.Nat.{_+_, _-_, _^_, _≤_, min};
+ghost use Prim.Native.Nat.{_+_, _-_, _*_, _/_, _^_, _≤_, min};
 ghost use lib.Dec.{leb};
 ghost use Rattle.lemmas.specs.Tests.{_under_};
 ghost use Rattle.rules.specs.BestFit.{spot, better, bestFit};
@@ -62,6 +62,14 @@ fn run_from(table: &[u32], quarter: u32, from: u64) -> Run
     }
 }
 
+// The last multiple of a step up to a number.
+fn last_multiple(step: u64, n: u64) -> u64
+    requires { ⌜ 1 ≤ step ⌝ }
+    ensures { λ r. ⌜ (r ≡ n / step * step) × (r ≤ n) ⌝ }
+{
+    n / step * step
+}
+
 // Where in a run an extent starts: the first multiple of the step.
 fn start_in(step: u32, g: Run) -> u64
     requires { ⌜ g .from ≤ 2 ^ 33 ⌝ }
@@ -71,7 +79,7 @@ fn start_in(step: u32, g: Run) -> u64
         return 0;
     }
     let s = step as u64;
-    (g.from + (s - 1)) / s * s
+    last_multiple(s, g.from + (s - 1))
 }
 
 // How many bytes a run has.

@@ -13,7 +13,7 @@ use Rattle.lemmas.specs.RowTable.{applies, firstRow, line, none-applies, Row, r
 use Rattle.lemmas.specs.Tests.{_is_, _isnt_, _over_, _under_, and-rest-false, none-of, or-intro-l, or-l, or-r}
 use Rattle.rules.specs.declared.Object.{Object}
 use Rattle.rules.specs.declared.Request.{Request}
-use Rattle.rules.specs.BestFit.{bestFit, extentStep}
+use Rattle.rules.specs.BestFit.{extentStep}
 use Rattle.rules.specs.Drive.{Drive, refresh, sound}
 use Rattle.rules.specs.declared.Operation.{Operation}
 use Rattle.rules.specs.declared.Operation.the-variants.{Create, Delete, Look, Raise, Read, SetKey, Write}
@@ -106,6 +106,10 @@ pub record Clear (f : List ℕ) (s : Scope Object) (space : List ℕ) : Type 0 w
   pub frame : firstRow (frameRows f (fields f)) ≡ 0
   pub drive : firstRow (driveRows s (fields f) space) ≡ 0
 
+pub ready-sound : (d : Drive) (m : List ℕ) → row1 d m ≡ false → sound d ≡ true
+unfolding row1
+ready-sound d m h = not-false (sound d) (or-l (not (sound d)) (length m isnt d .size) h)
+
 module _ (d : Drive) (m f : List ℕ) (clock : ℕ) (space : List ℕ) (g : firstRow (rows d m f clock space) ≡ 0) where
   pub cleared : Clear f (driveScope (refresh clock d) (fields f .cred)) space
   unfolding rows frameRows every
@@ -122,8 +126,7 @@ module _ (d : Drive) (m f : List ℕ) (clock : ℕ) (space : List ℕ) (g : firs
   clear1 = none-applies (rows d m f clock space) refl g 1
 
   pub is-sound : sound d ≡ true
-  unfolding row1
-  is-sound = not-false (sound d) (or-l (not (sound d)) (length m isnt d .size) clear1)
+  is-sound = ready-sound d m clear1
 
   pub size-is : length m ≡ d .size
   unfolding row1
@@ -280,8 +283,16 @@ module _ {f : List ℕ} {s : Scope Object} {space : List ℕ} (g : Clear f s spa
       (not (missing (find Object.number (x .req .A) (s .partition .objects))))
       (eq-eqb (x .req .operation) 5 (k .0)) (by-drive 18)))
 
+  pub place-found : (a b : ℕ) → operationOf x ≡ Create a b → missing (placement s b) ≡ false
+  unfolding driveRows scopeRows applies row20
+  place-found a b o =
+      let k = asks-for (x .req) (Create a b) o in
+      subst (λ (n : ℕ). missing (placement s n) ≡ false) (k .2)
+      (and-rest-false (x .req .operation is 5) (missing (placement s (x .req .B)))
+      (eq-eqb (x .req .operation) 5 (k .0)) (by-drive 20))
+
   can-create : SoundScope s → (a b : ℕ) → operationOf x ≡ Create a b → CanCreate s a b
-  unfolding driveRows scopeRows applies placement placementStart row19 row20
+  unfolding driveRows scopeRows applies placement placementStart row19
   can-create h a b o =
       let k = asks-for (x .req) (Create a b) o in
       let is5 : (x .req .operation is 5) ≡ true = eq-eqb (x .req .operation) 5 (k .0) in
@@ -292,15 +303,12 @@ module _ {f : List ℕ} {s : Scope Object} {space : List ℕ} (g : Clear f s spa
       let b0 : x .req .B ≡ 0 → ⊥ = eqb-false (x .req .B) 0 (or-r (x .req .A is 0) (x .req .B is 0) h6) in
       let full : length here ≡ 16 → ⊥ = eqb-false (length here) 16
       (and-rest-false (x .req .operation is 5) (length here is 16) is5 (by-drive 19)) in
-      let fit : missing (bestFit extentStep (s .quarter) here b) ≡ false =
-      subst (λ (n : ℕ). missing (bestFit extentStep (s .quarter) here n) ≡ false) (k .2)
-      (and-rest-false (x .req .operation is 5) (missing (bestFit extentStep (s .quarter) here (x .req .B))) is5 (by-drive 20)) in
       record {
         number-one = omega (arith, k .1);
         size-one = omega (arith, k .2);
         free = not-found Object.number a here (number-free a b o);
         room = omega (arith, it .count);
-        place = placed extentStep (s .quarter) here b (omega arith) sized (omega (arith, k .2)) fit;
+        place = placed extentStep (omega arith) (s .quarter) here sized b (omega (arith, k .2)) (place-found a b o);
       }
     where
       here : List Object

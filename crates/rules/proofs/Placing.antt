@@ -2,42 +2,72 @@
 -- applies exactly where no gap fits. Over any step from 1, for extents that are not empty. A new extent is inside the
 -- quarter and meets no other.
 use mathlib.Core.Path.{_≡_, refl, sym, ap, _∙_, subst}
-use mathlib.Core.Logic.{_⊎_, inl, inr}
+use mathlib.Core.Logic.{_⊎_, inl, inr, _↔_}
 use mathlib.Core.Bool.{Bool, true, false, _&&_, _||_, cond, true≢false}
 use mathlib.Core.Option.{Option, none, some, Option·map, Option·getD}
 use mathlib.Core.List.{List, [], _∷_, List·Memᴰ, List·Memᴰ·head, List·Memᴰ·tail}
 use Prim.Native.Nat.{ℕ, _+_, _-_, _*_, _/_, _%_, _≤_, _<_}
-use native.Mathlib.Nat.{mod-lt, div-add-mod', div-lt-iff-lt-mul, mul-le-mul-right}
+use native.Mathlib.Nat.{mod-lt, div-add-mod', div-lt-iff-lt-mul, mul-le-mul-right, zero-mul}
 use native.Mathlib.Decide.{decLe}
-use native.Mathlib.Omega.{arith}
+use native.Mathlib.Omega.{arith, both-ways}
 use lib.Dec.{leb}
 use borrow.Author.Tests.{ltb-true, ltb-false, leb-true, eqb-true, eqb-false, le-leb}
 use Rattle.lemmas.specs.Tests.{_under_, _is_, and-l, and-r, or-l, or-r, or-cases, or-intro-l, or-intro-r, bool-cases}
 use Rattle.lemmas.specs.Lists.{every, keep, missing}
 use Rattle.lemmas.specs.ListLaws.{every-of, member-keep, keep-passes, keep-member}
 use Rattle.rules.specs.declared.Object.{Object}
-use Rattle.rules.specs.BestFit.{Gap, IsGap, gaps, spot, fits, width, NoWorse, Chosen, better, bestOf, bestFit}
+use Rattle.rules.specs.BestFit.{
+  Gap,
+  IsGap,
+  gaps,
+  Multiple,
+  FirstMultiple,
+  Fits,
+  NoGap,
+  spot,
+  fits,
+  width,
+  NoWorse,
+  Chosen,
+  better,
+  bestOf,
+  bestFit,
+}
 use Rattle.rules.proofs.Gaps.{gaps-are}
 
 -- ---- the place in a gap is the first multiple of the step
-pub spot-in : (step : ℕ) (g : Gap) → 1 ≤ step → g .from ≤ spot step g
-unfolding spot
-spot-in step g h =
-    let n : ℕ = g .from + (step - 1) in
-    let z : 0 < step = omega arith in
-    let whole : n / step * step + n % step ≡ n = div-add-mod' n step in
-    let rest : n % step < step = mod-lt n z in
-    omega arith
+module _ (step : ℕ) (one : 1 ≤ step) (g : Gap) where
+  spot-in : g .from ≤ spot step g
+  unfolding spot
+  spot-in =
+      let n : ℕ = g .from + (step - 1) in
+      let z : 0 < step = omega arith in
+      let whole : n / step * step + n % step ≡ n = div-add-mod' n step in
+      let rest : n % step < step = mod-lt n z in
+      omega arith
 
-pub spot-first : (step : ℕ) (g : Gap) (k : ℕ) → 1 ≤ step → g .from ≤ k * step → spot step g ≤ k * step
-unfolding spot
-spot-first step g k h l =
-    let n : ℕ = g .from + (step - 1) in
-    let z : 0 < step = omega arith in
-    let below : n < (k + 1) * step = omega arith in
-    let few : n / step < k + 1 = div-lt-iff-lt-mul z .1 below in
-    let le : n / step ≤ k = omega arith in
-    mul-le-mul-right step le
+  spot-lowest : (k : ℕ) → g .from ≤ k * step → spot step g ≤ k * step
+  unfolding spot
+  spot-lowest k l =
+      let n : ℕ = g .from + (step - 1) in
+      let z : 0 < step = omega arith in
+      let below : n < (k + 1) * step = omega arith in
+      let few : n / step < k + 1 = div-lt-iff-lt-mul z .1 below in
+      let le : n / step ≤ k = omega arith in
+      mul-le-mul-right step le
+
+  pub spot-first : FirstMultiple step g (spot step g)
+  unfolding spot
+  spot-first = record {
+    multiple = ((g .from + (step - 1)) / step, refl);
+    behind = spot-in;
+    first = λ t m l. subst (λ (n : ℕ). spot step g ≤ n) (m .1) (spot-lowest (m .0) (subst (λ (n : ℕ). g .from ≤ n) (sym (m .1)) l));
+  }
+
+-- there is one first multiple
+pub first-one : {step : ℕ} {g : Gap} {s t : ℕ} → FirstMultiple step g s → FirstMultiple step g t → s ≡ t
+first-one {step} {g} {s} {t} a b =
+    both-ways s t (a .first t (b .multiple) (b .behind)) (b .first s (a .multiple) (a .behind))
 
 -- ---- the best of a list: no gap of it is smaller, and none as small starts lower
 no-worse-trans : (a b c : Gap) → NoWorse a b → NoWorse b c → NoWorse a c
@@ -128,9 +158,21 @@ unfolding bestOf
 best-none (x ∷ xs) e g k = true≢false (sym e ∙ held-some xs x)
 
 -- ---- the placing rule
-module _ (step q : ℕ) (objects : List Object) (sized : (a : Object) → List·Memᴰ a objects → 1 ≤ a .size) (B : ℕ) where
+module _ (step : ℕ) (one : 1 ≤ step) (q : ℕ) (objects : List Object)
+    (sized : (a : Object) → List·Memᴰ a objects → 1 ≤ a .size) (B : ℕ) where
   fitting : List Gap
   fitting = keep (fits step B) (gaps q objects)
+
+  -- those of the list that fit are the document's that fit
+  fitting-fits : (g : Gap) → List·Memᴰ g fitting → spot step g + B ≤ g .to
+  unfolding fitting
+  fitting-fits g k = leb-true (spot step g + B) (g .to) (keep-passes (fits step B) (gaps q objects) g k)
+
+  is-fitting : (g : Gap) → IsGap q objects g → Fits step B g → List·Memᴰ g fitting
+  unfolding fitting
+  is-fitting g i f =
+      keep-member (fits step B) (gaps q objects) g (gaps-are q objects sized g .1 i)
+      (le-leb (spot step g + B) (g .to) (omega (arith, first-one (spot-first step one g) (f .1), f .2)))
 
   pub fit-chosen : (s : ℕ) → bestFit step q objects B ≡ some s → Chosen step q objects B s
   unfolding bestFit missing fitting
@@ -144,27 +186,33 @@ module _ (step q : ℕ) (objects : List Object) (sized : (a : Object) → List·
       go none k e = absurd (true≢false (ap missing e))
       go (some g) k e =
           let b : Best fitting g = best-some fitting g k in
+          let at : spot step g ≡ s = ap place e in
           record {
             gap = g;
             is-gap = gaps-are q objects sized g .0 (member-keep (fits step B) (gaps q objects) g (b .member));
-            fits = leb-true (spot step g + B) (g .to) (keep-passes (fits step B) (gaps q objects) g (b .member));
-            start = ap place e;
-            least = λ h i f. b .least h (keep-member (fits step B) (gaps q objects) h
-                (gaps-are q objects sized h .1 i) (le-leb (spot step h + B) (h .to) f));
+            place = subst (FirstMultiple step g) at (spot-first step one g);
+            fits = subst (λ (n : ℕ). n + B ≤ g .to) at (fitting-fits g (b .member));
+            least = λ h i f. b .least h (is-fitting h i f);
           }
 
-  -- row 20 applies exactly where no gap has B bytes
-  pub fit-none : missing (bestFit step q objects B) ≡ true → (g : Gap) → IsGap q objects g → spot step g + B ≤ g .to
-      → ⊥
+  fit-none : missing (bestFit step q objects B) ≡ true → NoGap step q objects B
   unfolding bestFit missing fitting
-  fit-none e g i f =
-      best-none fitting (inner (bestOf none fitting) e) g
-      (keep-member (fits step B) (gaps q objects) g (gaps-are q objects sized g .1 i)
-      (le-leb (spot step g + B) (g .to) f))
+  fit-none e g i f = best-none fitting (inner (bestOf none fitting) e) g (is-fitting g i f)
     where
       inner : (o : Option Gap) → missing (Option·map (spot step) o) ≡ true → missing o ≡ true
       inner none h = refl
       inner (some g) h = h
+
+  -- row 20 applies exactly where no gap fits
+  pub none-fits : (missing (bestFit step q objects B) ≡ true) ↔ NoGap step q objects B
+  unfolding missing
+  none-fits = (fit-none, λ h. go h (bestFit step q objects B) refl)
+    where
+      go : NoGap step q objects B → (o : Option ℕ) → bestFit step q objects B ≡ o → missing o ≡ true
+      go h none e = refl
+      go h (some s) e =
+          let c : Chosen step q objects B s = fit-chosen s e in
+          absurd (h (c .gap) (c .is-gap) (s, c .place, c .fits))
 
   -- and the place that the document names is the one found
   pub chosen-fit : (s : ℕ) → Chosen step q objects B s → bestFit step q objects B ≡ some s
@@ -182,14 +230,23 @@ module _ (step q : ℕ) (objects : List Object) (sized : (a : Object) → List·
 
       unique : (r : ℕ) → Chosen step q objects B r → r ≡ s
       unique r d =
-          sym (d .start)
-          ∙ ap (spot step) (same (d .gap) (c .gap) (d .is-gap) (c .is-gap) (d .least (c .gap) (c .is-gap) (c .fits))
-          (c .least (d .gap) (d .is-gap) (d .fits)))
-          ∙ c .start
+          let e : d .gap ≡ c .gap = same (d .gap) (c .gap) (d .is-gap) (c .is-gap)
+          (d .least (c .gap) (c .is-gap) (s, c .place, c .fits))
+          (c .least (d .gap) (d .is-gap) (r, d .place, d .fits)) in
+          first-one (subst (λ (g : Gap). FirstMultiple step g r) e (d .place)) (c .place)
 
       go : (o : Option ℕ) → bestFit step q objects B ≡ o → bestFit step q objects B ≡ some s
-      go none e = absurd (fit-none (ap missing e) (c .gap) (c .is-gap) (c .fits))
+      go none e = absurd (fit-none (ap missing e) (c .gap) (c .is-gap) (s, c .place, c .fits))
       go (some r) e = e ∙ ap some (unique r (fit-chosen r e))
+
+-- what is found is a multiple of the step; none counts as 0
+pub fit-multiple : (step q : ℕ) (objects : List Object) (B : ℕ) → Multiple step (Option·getD (bestFit step q objects B) 0)
+unfolding bestFit spot
+fit-multiple step q objects B = go (bestOf none (keep (fits step B) (gaps q objects)))
+  where
+    go : (o : Option Gap) → Multiple step (Option·getD (Option·map (spot step) o) 0)
+    go none = (0, zero-mul step)
+    go (some g) = ((g .from + (step - 1)) / step, refl)
 
 -- ---- a new extent is inside the quarter and meets no other
 -- an object's extent does not meet the B bytes from s on
@@ -200,11 +257,11 @@ pub record Placed (q : ℕ) (objects : List Object) (B s : ℕ) : Type 0 where
   pub inside : s + B ≤ q
   pub clear : every (clearOf s B) objects ≡ true
 
-module _ (step q : ℕ) (objects : List Object) (B : ℕ) (one : 1 ≤ step)
-    (sized : (a : Object) → List·Memᴰ a objects → 1 ≤ a .size) (some-byte : 1 ≤ B) where
+module _ (step : ℕ) (one : 1 ≤ step) (q : ℕ) (objects : List Object)
+    (sized : (a : Object) → List·Memᴰ a objects → 1 ≤ a .size) (B : ℕ) (some-byte : 1 ≤ B) where
   chosen-placed : (s : ℕ) → Chosen step q objects B s → Placed q objects B s
   chosen-placed s c = record {
-    inside = omega (arith, c .fits, c .start, c .is-gap .inside);
+    inside = omega (arith, c .fits, c .is-gap .inside);
     clear = every-of (clearOf s B) objects (λ a k. go a k (decLe (a .start + a .size) s) (decLe (s + B) (a .start)));
   }
     where
@@ -212,12 +269,10 @@ module _ (step q : ℕ) (objects : List Object) (B : ℕ) (one : 1 ≤ step)
       meet : (a : Object) → List·Memᴰ a objects → s < a .start + a .size → a .start < s + B
           → Dec (s ≤ a .start) → ⊥
       meet a k h l (yes e) =
-          c .is-gap .free (a .start) (omega (arith, spot-in step (c .gap) one, c .start))
-          (omega (arith, c .fits, c .start))
+          c .is-gap .free (a .start) (omega (arith, c .place .behind)) (omega (arith, c .fits))
           (a, k, omega arith, omega (arith, sized a k))
       meet a k h l (no e) =
-          c .is-gap .free s (omega (arith, spot-in step (c .gap) one, c .start)) (omega (arith, c .fits, c .start))
-          (a, k, omega arith, h)
+          c .is-gap .free s (c .place .behind) (omega (arith, c .fits)) (a, k, omega arith, h)
 
       go : (a : Object) → List·Memᴰ a objects → Dec (a .start + a .size ≤ s) → Dec (s + B ≤ a .start)
           → clearOf s B a ≡ true
@@ -234,4 +289,4 @@ module _ (step q : ℕ) (objects : List Object) (B : ℕ) (one : 1 ≤ step)
     where
       go : (o : Option ℕ) → bestFit step q objects B ≡ o → missing o ≡ false → Placed q objects B (Option·getD o 0)
       go none e k = absurd (true≢false k)
-      go (some s) e k = chosen-placed s (fit-chosen step q objects sized B s e)
+      go (some s) e k = chosen-placed s (fit-chosen step one q objects sized B s e)

@@ -2,7 +2,7 @@
 -- (`together`), and that row 12 answers repeats only (`only-repeats`): every entry of a memory was entered by a grant.
 use mathlib.Core.Path.{_∙_, _≡_, ap, refl, subst, sym}
 use mathlib.Core.Logic.{_⊎_, inl, inr}
-use mathlib.Core.Bool.{Bool, cond, false, false≢true, true}
+use mathlib.Core.Bool.{Bool, cond, false, true}
 use mathlib.Core.List.{[], _++_, _∷_, List, List·Memᴰ, List·Memᴰ·append-cases, List·Memᴰ·eq-of-singleton, List·Memᴰ·not-nil}
 use Prim.Native.Nat.{ℕ}
 use native.Mathlib.Decide.{ℕ-discrete}
@@ -12,7 +12,7 @@ use Rattle.lemmas.specs.Fill.{replicate-at}
 use Rattle.lemmas.specs.ListLaws.{member-keep, member-some, member-updated, some-keep, some-member}
 use Rattle.lemmas.specs.Lists.{keep, some?}
 use Rattle.lemmas.specs.RowTable.{answer-applies, firstRow, Row}
-use Rattle.lemmas.specs.Tests.{_is_, and-l, and-r, or-cases}
+use Rattle.lemmas.specs.Tests.{_is_, and-l, and-r, by-branches, or-only}
 use Rattle.rules.specs.declared.Credential.{Credential}
 use Rattle.rules.specs.declared.Entry.{Entry}
 use Rattle.rules.specs.declared.Object.{Object}
@@ -203,23 +203,15 @@ test12 d c = row12 (driveScope (refresh (c .clock) d) (callFields c .cred)) (cal
 given-12 : (d : Drive) (m : List ℕ) (c : Call) → firstRow (rows d m (c .frame) (c .clock) (c .space)) ≡ 12
     → test12 d c ≡ true
 unfolding rows frameRows driveRows scopeRows some?
-given-12 d m c h = go (or-cases (test12 d c) false (answer-applies 12 (rows d m (c .frame) (c .clock) (c .space)) refl h))
-  where
-    go : (test12 d c ≡ true) ⊎ (false ≡ true) → test12 d c ≡ true
-    go (inl e) = e
-    go (inr e) = absurd (false≢true e)
+given-12 d m c h = or-only (test12 d c) (answer-applies 12 (rows d m (c .frame) (c .clock) (c .space)) refl h)
 
 -- a format leaves every memory empty
-one-or-other : (b : Bool) (f g : Formatted) (k : ℕ) → memoryOf (f .drive) k ≡ [] → memoryOf (g .drive) k ≡ []
-    → memoryOf (cond b f g .drive) k ≡ []
-one-or-other true f g k p q = p
-one-or-other false f g k p q = q
-
 format-empty : (medium : List ℕ) (F : ℕ) (master drive : List ℕ) (k : ℕ)
     → memoryOf (format medium F master drive .drive) k ≡ []
 unfolding format
 format-empty medium F master drive k =
-    one-or-other (firstRow (formatRows medium F master drive) is 0) _ _ k (replicate-at 5 k []) (replicate-at 5 k [])
+    by-branches (λ (f : Formatted). memoryOf (f .drive) k ≡ []) (firstRow (formatRows medium F master drive) is 0)
+    (replicate-at 5 k []) (replicate-at 5 k [])
 
 pub only-repeats : OnlyRepeats
 unfolding answer nonce

@@ -1,6 +1,6 @@
 -- Document 01, operation 5: where a new area (extent) starts, in the document's words and as a computation.
 -- That both agree, over any step from 1, is proved in proofs/Gaps.antt and proofs/Placing.antt.
--- q: the quarter. Starts count from the quarter's start.
+-- q: the quarter. B: the new area's size. Starts count from the quarter's start.
 use mathlib.Core.Bool.{Bool, _&&_, _||_, cond}
 use mathlib.Core.Option.{Option, none, some, Option·map}
 use mathlib.Core.Path.{_≡_}
@@ -34,9 +34,18 @@ pub record IsGap (q : ℕ) (objects : List Object) (g : Gap) : Type 0 where
 abbrev pub extentStep : ℕ
 extentStep = 1
 
--- where in a gap an area starts: the first multiple of the step
-unfoldable pub spot : ℕ → Gap → ℕ
-spot step g = (g .from + (step - 1)) / step * step
+abbrev pub Multiple : ℕ → ℕ → Type 0
+Multiple step s = (k : ℕ) × (k * step ≡ s)
+
+-- s is the first multiple of the step from the gap's start on
+pub record FirstMultiple (step : ℕ) (g : Gap) (s : ℕ) : Type 0 where
+  pub multiple : Multiple step s
+  pub behind : g .from ≤ s
+  pub first : (t : ℕ) → Multiple step t → g .from ≤ t → s ≤ t
+
+-- a gap fits if B bytes remain from there
+abbrev pub Fits : ℕ → ℕ → Gap → Type 0
+Fits step B g = (s : ℕ) × FirstMultiple step g s × (s + B ≤ g .to)
 
 abbrev pub width : Gap → ℕ
 width g = g .to - g .from
@@ -49,9 +58,13 @@ NoWorse g h = (width g < width h) ⊎ ((width g ≡ width h) × (g .from ≤ h .
 pub record Chosen (step q : ℕ) (objects : List Object) (B s : ℕ) : Type 0 where
   pub gap : Gap
   pub is-gap : IsGap q objects gap
-  pub fits : spot step gap + B ≤ gap .to
-  pub start : spot step gap ≡ s
-  pub least : (h : Gap) → IsGap q objects h → spot step h + B ≤ h .to → NoWorse gap h
+  pub place : FirstMultiple step gap s
+  pub fits : s + B ≤ gap .to
+  pub least : (h : Gap) → IsGap q objects h → Fits step B h → NoWorse gap h
+
+-- no gap fits
+abbrev pub NoGap : ℕ → ℕ → List Object → ℕ → Type 0
+NoGap step q objects B = (g : Gap) → IsGap q objects g → Fits step B g → ⊥
 
 -- ---- as a computation
 -- byte i is in no area
@@ -77,7 +90,11 @@ unfoldable pub gaps : ℕ → List Object → List Gap
 gaps q objects =
     map (gapFrom q objects) (keep (starts q objects) (0 ∷ map (λ (a : Object). a .start + a .size) objects))
 
--- B bytes remain from the place in the gap
+-- where in a gap an area starts: the first multiple of the step
+unfoldable pub spot : ℕ → Gap → ℕ
+spot step g = (g .from + (step - 1)) / step * step
+
+-- B bytes remain from there
 abbrev pub fits : ℕ → ℕ → Gap → Bool
 fits step B g = leb (spot step g + B) (g .to)
 
