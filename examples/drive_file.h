@@ -6,7 +6,8 @@
  * each operation, because row, reply length and new record depend on the record in force, the frame, the clock reading and the
  * lengths alone, and these are as they were:
  *   - a write puts its data over the same bytes once more, half written before or not, and touches no other;
- *   - a create zeroes the same area once more: which one, the record in force says;
+ *   - a create zeroes the same area once more: which one, the record in force says. Under a library whose SIEVELAST_VERSION differs
+ *     in the second number that may be another free area; what was zeroed of the first is in no object;
  *   - a raise, a delete and a new key change the record alone, and the half changed copy is overwritten first;
  *   - a read and a look change the record's replay memory and mark alone, a refused frame its mark and outlived entries.
  * No other frame is put to the gate in between. The client of a call done again gets no answer (wire.h says what it does then).
@@ -31,7 +32,7 @@
 
 struct drive_file {
     char mark[16];
-    char version[16]; /* the records' form is that of SIEVELAST_VERSION */
+    char version[16]; /* SIEVELAST_VERSION of whoever made it; its first number is the records' form */
     uint64_t record_size;
     _Atomic uint64_t state; /* the record in force, 0 or 1; and DRIVE_FILE_UNDER_WAY */
     uint64_t clock;         /* of the kept frame */
@@ -94,6 +95,13 @@ static inline uint64_t drive_file_make(const char *name, size_t medium_len, cons
     return SIEVELAST_GRANTED;
 }
 
+/* Whether a file's records have the form that is known here, by the first number of its version. */
+static inline int drive_file_has_form(const char *version, size_t length)
+{
+    const char *dot = memchr(version, '.', length);
+    return dot && strtoul(version, NULL, 10) == SIEVELAST_VERSION_MAJOR;
+}
+
 static inline struct drive_map drive_file_open(const char *name)
 {
     struct stat s;
@@ -105,7 +113,7 @@ static inline struct drive_map drive_file_open(const char *name)
     struct drive_map m = drive_file_map(name, f, (size_t)s.st_size);
     if (memcmp(m.file->mark, DRIVE_FILE_MARK, sizeof DRIVE_FILE_MARK))
         wire_wrong(name, "not a drive's file");
-    if (strncmp(m.file->version, SIEVELAST_VERSION, sizeof m.file->version))
+    if (!drive_file_has_form(m.file->version, sizeof m.file->version))
         wire_wrong(name, "a drive's file of another version than " SIEVELAST_VERSION);
     if (m.file->record_size != sizeof m.file->drive[0] || m.file->state > (1 | DRIVE_FILE_UNDER_WAY) ||
         m.file->length > DRIVE_FILE_BOUND || m.file->drive[m.file->state & 1].size != m.medium_len)

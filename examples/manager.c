@@ -2,7 +2,7 @@
  *
  *   manager new DIR                          makes DIR with a random master key and drive key, for `store format`
  *   manager keys DIR                         sets new keys: the partition's and its working key 0. Credentials under old ones end
- *   manager create DIR NUMBER SIZE           makes object NUMBER of SIZE bytes
+ *   manager create DIR NUMBER SIZE           makes object NUMBER of SIZE bytes, where they have room from a multiple of 16 on
  *   manager write DIR NUMBER < shape         writes a shape at the object's start
  *   manager raise DIR NUMBER                 gives the object its next version: credentials issued for it before open nothing
  *   manager delete DIR NUMBER

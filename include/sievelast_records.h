@@ -24,9 +24,10 @@
 extern "C" {
 #endif
 
-/* ---- version: of these headers and the archives installed with them; SIEVELAST_VERSION is the three as text, with dots */
+/* ---- version: of these headers and the archives installed with them; SIEVELAST_VERSION is the three as text, with dots. The first
+ * number rises with the form of a record, of a struct or of a call, the second with what a call answers or what is there to call. */
 #define SIEVELAST_VERSION_MAJOR 2
-#define SIEVELAST_VERSION_MINOR 0
+#define SIEVELAST_VERSION_MINOR 1
 #define SIEVELAST_VERSION_PATCH 0
 #define SIEVELAST_TEXT_(x) #x
 #define SIEVELAST_DOTTED_(x, y, z) SIEVELAST_TEXT_(x) "." SIEVELAST_TEXT_(y) "." SIEVELAST_TEXT_(z)
@@ -53,6 +54,7 @@ extern "C" {
 /* ---- other limits */
 #define SIEVELAST_PARTITIONS 4
 #define SIEVELAST_MOST_OBJECTS 16     /* of a partition */
+#define SIEVELAST_EXTENT_STEP 16      /* a new object starts at a multiple of it, counted in bytes from its quarter's start */
 #define SIEVELAST_MEMORIES 5          /* replay memories: one for each partition, a fifth for slots 3 and 4 */
 #define SIEVELAST_MOST_ENTRIES 64     /* of a replay memory */
 #define SIEVELAST_TIME_WINDOW 5000    /* how far a request's time may lie from the drive's mark, in milliseconds */
@@ -63,7 +65,7 @@ enum sievelast_operation {
     SIEVELAST_WRITE = 2,  /* the data, b bytes, into the object from offset a on */
     SIEVELAST_LOOK = 3,   /* the object's size and version, or for object 0 a quarter's size and the partition's version */
     SIEVELAST_RAISE = 4,  /* the next version, for the object, or for object 0 the partition */
-    SIEVELAST_CREATE = 5, /* on object 0: object a, of b bytes */
+    SIEVELAST_CREATE = 5, /* on object 0: object a, of b bytes; "rows" below has where it can lie */
     SIEVELAST_DELETE = 6, /* the object */
     SIEVELAST_SET_KEY = 7 /* under slot 4 the drive key, 3 partition a's key, 2 working key a; the data is a seed */
 };
@@ -86,7 +88,10 @@ enum sievelast_slot {
 #define SIEVELAST_EVERY_RIGHT ((uint16_t)0x7f)
 
 /* ---- rows: why a call said no; 0 means granted. The lowest row that applies is the one returned. The gate answers rows 1 to
- * 23, format 24 to 26, HMAC 27, issuer, builder and reply check 26 and 28 to 30. */
+ * 23, format 24 to 26, HMAC 27, issuer, builder and reply check 26 and 28 to 30.
+ *
+ * SIEVELAST_ROW_NO_GAP can come although so many bytes are free, side by side: a new object needs them from a multiple of
+ * SIEVELAST_EXTENT_STEP on. A quarter of 100 bytes has room for seven objects of one byte. */
 enum sievelast_row {
     SIEVELAST_GRANTED = 0,
     SIEVELAST_ROW_RECORD_UNSOUND = 1,
@@ -147,7 +152,7 @@ static inline const char *sievelast_row_text(uint64_t row)
         "the bytes to read or write end past the object",
         "the new object's number is taken",
         "the partition has 16 objects",
-        "no gap of the partition has that many bytes",
+        "no gap of the partition has that many bytes from a multiple of 16 on",
         "the partition has given version 4,294,967,295",
         "the replay memory has 64 entries",
         "the reply space is too short",

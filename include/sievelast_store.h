@@ -28,15 +28,16 @@ extern "C" {
 #define SIEVELAST_RECORD_KEYS 462   /* bytes: 14 keys of 32 (working keys 0 of the four partitions, working keys 1, partition keys, drive
                                        key, master key), and for each one that says whether it was set */
 #define SIEVELAST_RECORD_TABLES 268 /* numbers: for each partition version, last version given, count of objects, and 16 each of
-                                       number, version, size, start */
+                                       number, version, size, start, which is a multiple of SIEVELAST_EXTENT_STEP where a create
+                                       gave it; row 1 asks for none */
 #define SIEVELAST_RECORD_PLACES 320 /* entries: 64 for each replay memory */
 #define SIEVELAST_RECORD_ENTRY 4    /* numbers of an entry: slot, holder, count, the credential's object; its time stands in a row of
                                        its own */
 #define SIEVELAST_RECORD_ENTRIES (SIEVELAST_RECORD_PLACES * SIEVELAST_RECORD_ENTRY) /* numbers of all, those of an entry together */
 
 /* The drive's record. First what battery memory would keep, then what a drive may lose. A caller may read `size` and `highwater`
- * and copy a record whole while no call works on it; the rest is the drive's. Its form belongs to SIEVELAST_VERSION: whoever keeps
- * one in a file keeps the version beside it. */
+ * and copy a record whole while no call works on it; the rest is the drive's. Its form belongs to SIEVELAST_VERSION_MAJOR: whoever
+ * keeps one in a file keeps the version beside it, and a library of the same first number takes it as it is. */
 struct sievelast_drive {
     uint64_t size; /* M, the medium's length */
     uint32_t tables[SIEVELAST_RECORD_TABLES];

@@ -131,8 +131,21 @@ static inline void draft_again(struct draft *f, const struct sievelast_drive *d,
     f->what.time = d->times[place];
 }
 
+/* A size for a create at the edge of a gap of its partition: what remains from the gap's first multiple of the step, all that the gap has,
+ * or one byte more than either. */
+static inline void draft_edge(struct draft *f, struct sievelast_drive *d, struct choices *s)
+{
+    const uint32_t *t = table_of(d, f->who.partition);
+    if (f->what.operation != SIEVELAST_CREATE || !sound_table(t, quarter_of(d)))
+        return;
+    struct gap g = gap_behind(t, quarter_of(d), choose(s, t[COUNT_AT] + 1));
+    uint64_t place = gap_place(g), all = g.end - g.from, remain = place < g.end ? g.end - place : 0;
+    uint32_t way = choose(s, 4);
+    f->what.b = (uint32_t)((way < 2 ? remain : all) + way % 2);
+}
+
 /* One field that a row from 7 to 20 is about, mostly none. */
-static inline void spoil_field(struct draft *f, const struct sievelast_drive *d, struct choices *s)
+static inline void spoil_field(struct draft *f, struct sievelast_drive *d, struct choices *s)
 {
     struct sievelast_credential *who = &f->who;
     struct sievelast_request *what = &f->what;
@@ -150,6 +163,10 @@ static inline void spoil_field(struct draft *f, const struct sievelast_drive *d,
     case 11: what->b = (uint32_t)quarter_of(d) + 1; break;
     case 12: who->slot = (uint8_t)choose(s, 5); break;
     case 13: draft_again(f, d, s); break;
+    case 14:
+    case 15:
+    case 16:
+    case 17: draft_edge(f, d, s); break;
     default: break;
     }
 }

@@ -1,20 +1,13 @@
-/* What document 01 says of format and gate, with change 2 of document 02, in plain C over the record of sievelast_store.h, and written
- * from the papers: what each call must answer and leave behind, from any record, sound or not. */
+/* What document 01 says of format and gate, with changes 2 and 3 of document 02, in plain C over the record of sievelast_store.h, and
+ * written from the papers: what each call must answer and leave behind, from any record, sound or not. */
 #ifndef TESTS_PAPER_DRIVE_H
 #define TESTS_PAPER_DRIVE_H
 #include "entry.h"
 #include "paper.h"
+#include "table.h"
 
-/* ---- the record's form: a partition's table, and its keys */
+/* ---- the record's keys */
 enum {
-    VERSION_AT,
-    LAST_AT,
-    COUNT_AT,
-    NUMBERS_AT,
-    VERSIONS_AT = NUMBERS_AT + SIEVELAST_MOST_OBJECTS,
-    SIZES_AT = VERSIONS_AT + SIEVELAST_MOST_OBJECTS,
-    STARTS_AT = SIZES_AT + SIEVELAST_MOST_OBJECTS,
-    TABLE_NUMBERS = STARTS_AT + SIEVELAST_MOST_OBJECTS,
     DRIVE_KEY = 12, /* after four working keys 0, four working keys 1 and four partition keys */
     MASTER_KEY = 13,
     KEY_COUNT = 14,
@@ -28,8 +21,6 @@ static inline int target_place(int slot, int partition, int a) { return slot == 
 
 static inline uint8_t *key_at(struct sievelast_drive *d, int place) { return d->keys + place * SIEVELAST_KEY_BYTES; }
 
-static inline uint32_t *table_of(struct sievelast_drive *d, int partition) { return d->tables + partition * TABLE_NUMBERS; }
-
 static inline uint64_t quarter_of(const struct sievelast_drive *d) { return d->size / 4; }
 
 /* The place of an object in its table, or its count where it is not there. */
@@ -41,7 +32,7 @@ static inline uint32_t find_object(const uint32_t *t, uint32_t object)
     return i;
 }
 
-/* ---- row 1 */
+/* ---- row 1; an area may start anywhere in its quarter */
 static inline uint64_t end_of(const uint32_t *t, uint32_t i) { return (uint64_t)t[STARTS_AT + i] + t[SIZES_AT + i]; }
 
 static inline int object_apart(const uint32_t *t, uint32_t i)
@@ -208,30 +199,51 @@ static inline uint64_t row_14_to_17(const uint32_t *t, const struct paper_call *
     return q->sum > t[SIZES_AT + i] ? 17 : 0;
 }
 
-/* Where the run of free bytes that starts at `from` ends: the quarter's end, or the next area's start, which is `from` itself where
- * that byte is in an area. */
-static inline uint64_t gap_end(const uint32_t *t, uint64_t quarter, uint64_t from)
+/* ---- where a create puts its area; all places count from the quarter's start */
+struct gap {
+    uint64_t from, end; /* one without a byte is none */
+};
+
+/* "A gap is a run of the quarter's bytes in no area that can't be lengthened at either end": the one that starts where area i ends, or
+ * for the count of areas the one that starts at 0. */
+static inline struct gap gap_behind(const uint32_t *t, uint64_t quarter, uint32_t i)
 {
-    uint64_t end = quarter;
-    for (uint32_t i = 0; i < t[COUNT_AT]; i++)
-        if (end_of(t, i) > from && t[STARTS_AT + i] < end)
-            end = t[STARTS_AT + i] > from ? t[STARTS_AT + i] : from;
-    return end;
+    struct gap g = {i < t[COUNT_AT] ? end_of(t, i) : 0, quarter};
+    for (uint32_t j = 0; j < t[COUNT_AT]; j++)
+        if (end_of(t, j) > g.from && t[STARTS_AT + j] < g.end)
+            g.end = t[STARTS_AT + j] > g.from ? t[STARTS_AT + j] : g.from;
+    return g;
+}
+
+/* Change 3: "The transfer unit moves sixteen bytes at a time, so a new area now starts at a multiple of 16 from the quarter's start; row 1
+ * asks for no such step." */
+enum { STEP = 16 };
+
+/* "In a gap the place is the first such multiple, .. */
+static inline uint64_t gap_place(struct gap g) { return (g.from + STEP - 1) / STEP * STEP; }
+
+/* .. and the gap fits if B bytes remain from there." */
+static inline int gap_fits(struct gap g, uint32_t b) { return gap_place(g) + b <= g.end; }
+
+/* "The choice is still the smallest gap that fits, lowest start among equals." Length and start are the whole gap's. */
+static inline int gap_wins(struct gap g, struct gap other)
+{
+    uint64_t length = g.end - g.from, other_length = other.end - other.from;
+    return length < other_length || (length == other_length && g.from < other.from);
 }
 
 #define NOWHERE UINT64_MAX
 
-/* Create's area starts at the start of the smallest gap of at least b bytes, lowest start among equals. A gap starts at 0 or where an
- * area ends. */
+/* "Row 20 is met exactly when no gap fits": then NOWHERE. */
 static inline uint64_t new_start(const uint32_t *t, uint64_t quarter, uint32_t b)
 {
-    uint64_t best = NOWHERE, length = NOWHERE;
+    struct gap best = {0, NOWHERE}; /* larger than all */
     for (uint32_t i = 0; i <= t[COUNT_AT]; i++) {
-        uint64_t from = i < t[COUNT_AT] ? end_of(t, i) : 0, free_bytes = gap_end(t, quarter, from) - from;
-        if (free_bytes >= b && (free_bytes < length || (free_bytes == length && from < best)))
-            best = from, length = free_bytes;
+        struct gap g = gap_behind(t, quarter, i);
+        if (gap_fits(g, b) && gap_wins(g, best))
+            best = g;
     }
-    return best;
+    return best.end == NOWHERE ? NOWHERE : gap_place(best);
 }
 
 static inline uint64_t row_18_to_21(const uint32_t *t, uint64_t quarter, const struct paper_call *q)
@@ -293,15 +305,11 @@ static inline void grant_raise(struct sievelast_drive *d, const struct paper_cal
 
 static inline void grant_create(struct sievelast_drive *d, uint8_t *medium, const struct paper_call *q, uint8_t *result)
 {
-    uint32_t *t = table_of(d, q->partition), i = t[COUNT_AT];
+    uint32_t *t = table_of(d, q->partition);
     uint64_t start = new_start(t, quarter_of(d), q->b);
     memset(medium + (size_t)q->partition * quarter_of(d) + start, 0, q->b);
     t[LAST_AT]++;
-    t[NUMBERS_AT + i] = q->a;
-    t[VERSIONS_AT + i] = t[LAST_AT];
-    t[SIZES_AT + i] = q->b;
-    t[STARTS_AT + i] = (uint32_t)start;
-    t[COUNT_AT]++;
+    add_object(t, q->a, t[LAST_AT], q->b, (uint32_t)start);
     put_number(result, 4, t[LAST_AT]);
 }
 

@@ -94,6 +94,8 @@ m() {
 shape() { ./solver shape mill/socket "$1.credential" "$1.key"; }
 # a time for a frame that is put twice: as late as the window of 5000 lets it be, but a second, so that a slow machine is in time too
 milliseconds() { echo $(($(date +%s%3N) + 4000)); }
+# put_bytes FILE OFFSET BYTES: other bytes there
+put_bytes() { printf "$3" | dd of="$1" bs=1 seek="$2" conv=notrunc 2>dd.errors; }
 # a server that must not come up; one that does is ended
 no_server() { timeout 5 ./store serve "$@"; }
 
@@ -138,13 +140,22 @@ same 'the shape of the second log' log-4712 checked
 row 12 'that frame again' ./store send mill/socket <4712.frame
 say "a second log's frame of the same holder, time and count: granted, and again row 12"
 
+# partition 0 has 2,097,152 bytes: the logs are bytes 0 to 20 and 32 to 52, and what comes next starts at 64
+rest=$((8388608 / 4 - 64))
+row 20 'create a log of one byte more than there is from 64 on' m create 4713 $((rest + 1))
+granted 'create one of all that there is from 64 on' m create 4713 $rest
+row 20 'create one of a byte, with 11 free between the logs' m create 4714 1
+granted 'delete it' m delete 4713
+say 'a log that would fit behind the second, and not from a multiple of 16 on: row 20'
+
 stop
 [ ! -e mill/socket ] || fail 'the socket is there after the end'
+put_bytes mill/drive 16 '2.0.0\0'
 serve
 granted 'read after a restart' shape first
 same 'the shape after a restart' log printed
 row 12 'the old frame after a restart' ./store send mill/socket <frame
-say 'a restart: the shape is there, and the old frame is still row 12'
+say 'a restart, on a file as version 2.0.0 left it: the shape is there, and the old frame is still row 12'
 
 wrong 'another server has it' 'a second server of the drive' no_server mill/drive other
 granted 'a second drive' ./store format second 4096 mill/master mill/drive-key
@@ -155,15 +166,17 @@ wrong 'no socket' 'a server where a file is' no_server second precious
 granted 'read beside all these' shape first
 say 'no second server for the drive, none at the socket, none over a file'
 
-# spoilt OFFSET TEXT WHAT: a drive's file with another byte at OFFSET is refused
+# spoilt OFFSET BYTES TEXT WHAT: a drive's file with other bytes at OFFSET is refused
 spoilt() {
     cp second other
-    printf '\377' | dd of=other bs=1 seek="$1" conv=notrunc 2>dd.errors
-    wrong "$2" "a file of another $3" no_server other other-socket
+    put_bytes other "$1" "$2"
+    wrong "$3" "a file of another $4" no_server other other-socket
 }
-spoilt 0 "not a drive's file" mark
-spoilt 16 'another version' version
-spoilt 32 'do not fit' 'record size'
+spoilt 0 '\377' "not a drive's file" mark
+spoilt 16 '\377' 'another version' version
+spoilt 16 '1.1.0' 'another version' 'first number of the version'
+spoilt 16 '20.1.0' 'another version' 'first number of the version'
+spoilt 32 '\377' 'do not fit' 'record size'
 head -c 100 second >other
 wrong "not a drive's file" 'a file cut off' no_server other other-socket
 say 'a file of another mark, version or record size, and one cut off: refused'

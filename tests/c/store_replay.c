@@ -1,6 +1,6 @@
-/* Plays a trace of formats and calls against the drive as C has it, and prints for each record a line with what it left behind:
- * row, reply length, the whole reply space, a digest of the medium and of the 8 bytes behind it. tests/model/src/bin/library.rs
- * has the layouts of both; crates/drive_replay does the same in Rattle.
+/* Plays a trace of formats, objects put into a table, and calls against the drive as C has it, and prints for each record a line with
+ * what it left behind: row, reply length, the whole reply space, a digest of the medium and of the 8 bytes behind it.
+ * tests/model/src/bin/library.rs has the layouts of all; crates/drive_replay does the same in Rattle.
  *
  *   tests/differential-library target/store_replay
  *
@@ -8,7 +8,7 @@
  * whole, ends the output with the line `cut` and the status 1. */
 #include "hmac.h"
 #include "lent.h"
-#include "sievelast_store.h"
+#include "table.h"
 #include <inttypes.h>
 
 enum {
@@ -75,6 +75,20 @@ static int format(void)
     return 0;
 }
 
+/* An object that a partition has from now on, behind those that it has, with the last version given beside it. No call makes this: a
+ * record may hold areas that no create would place. */
+static int object(void)
+{
+    int partition = head[1];
+    if (partition >= SIEVELAST_PARTITIONS || table_of(&drive, partition)[COUNT_AT] >= SIEVELAST_MOST_OBJECTS)
+        return cut();
+    uint32_t *t = table_of(&drive, partition);
+    add_object(t, (uint32_t)number(4, 4), (uint32_t)number(8, 4), (uint32_t)number(12, 4), (uint32_t)number(16, 4));
+    t[LAST_AT] = (uint32_t)number(20, 4);
+    put_line(0, 0, NULL, 0);
+    return 0;
+}
+
 /* A call, whose first part is read. */
 static int call(void)
 {
@@ -105,6 +119,8 @@ int main(void)
             status = cut();
         else if (head[0] == 'F')
             status = format();
+        else if (head[0] == 'O')
+            status = object();
         else
             status = head[0] == 'C' ? call() : cut();
     }

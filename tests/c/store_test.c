@@ -8,7 +8,7 @@
 #include "spoil.h"
 
 enum {
-    MEDIUM = 1000, /* M */
+    MEDIUM = 1100, /* M: a quarter has room for 16 objects at multiples of 16 */
     QUARTER = MEDIUM / 4,
     BESIDE = 16, /* bytes of the medium's buffer on either side of it */
     REPLY = DRAFT_REPLY,
@@ -17,7 +17,8 @@ enum {
     FEW_ROUNDS = 100, /* under so many, the long parts are spoiled in every 61st number and way alone */
     LONG_STEP = 61,
     OBJECT = 1, /* of partition 0; it has 20 bytes */
-    SIZE = 20
+    SIZE = 20,
+    NEXT = 32 /* where an object behind it starts */
 };
 
 static struct sievelast_drive drive;
@@ -169,6 +170,13 @@ static void ready(uint32_t first)
     ask(SIEVELAST_WRITE, OBJECT, first + 1, 0, SIZE), make(black, (const uint8_t *)"log 4711, 312 mm top"), EXPECT_NUMBER(row(), 0);
 }
 
+/* All keys set, as no list of calls has to. */
+static void every_key(void)
+{
+    for (size_t i = 0; i < sizeof drive.keys; i++)
+        drive.keys[i] = i < FLAGS_AT ? (uint8_t)(i * 11 + 3) : 1;
+}
+
 static void ask_read(uint32_t a, uint32_t b) { ask(SIEVELAST_READ, OBJECT, 2, a, b); }
 
 /* The frame at hand with one byte changed, to a value or by an exclusive or. */
@@ -277,8 +285,8 @@ static void rows_of_the_fields(void)
     EXPECT_NUMBER(read_row(1, SIZE, 0, UINT32_MAX), 17);
     EXPECT_NUMBER(read_row(SIZE + 1, 0, 0, UINT32_MAX), 17);
     ask(SIEVELAST_CREATE, 0, 1, OBJECT, 5), make(black, NULL), EXPECT_NUMBER(row(), 18);
-    ask(SIEVELAST_CREATE, 0, 1, 2, QUARTER - SIZE + 1), make(black, NULL), EXPECT_NUMBER(row(), 20);
-    ask(SIEVELAST_CREATE, 0, 1, 2, QUARTER - SIZE), make(black, NULL), EXPECT_NUMBER(row(), 0);
+    ask(SIEVELAST_CREATE, 0, 1, 2, QUARTER - NEXT + 1), make(black, NULL), EXPECT_NUMBER(row(), 20);
+    ask(SIEVELAST_CREATE, 0, 1, 2, QUARTER - NEXT), make(black, NULL), EXPECT_NUMBER(row(), 0);
 }
 
 /* ---- rows 19, 21 and 22: of what a drive can hold */
@@ -307,6 +315,115 @@ static void rows_of_the_state(void)
     ready(UINT32_MAX);
     ask(SIEVELAST_RAISE, 0, UINT32_MAX, 0, 0), make(black, NULL), EXPECT_NUMBER(row(), 21);
     ask(SIEVELAST_CREATE, 0, UINT32_MAX, 1, 1), make(black, NULL), EXPECT_NUMBER(row(), 21);
+}
+
+/* ---- where a create puts its area, on hand-made records with quarters of 100 bytes. Of these only partition 0's starts at a multiple of
+ * 16 of the medium: in the others the same places show that multiples count from the quarter's start. */
+enum { PLACED_MEDIUM = 400, PLACED_QUARTER = PLACED_MEDIUM / 4, PLACED_VERSION = 1, NEW = 4711, NO_PLACE = -1 };
+
+/* Areas by their first and last byte, in order of creation; B; and the start of the new area, or NO_PLACE where row 20 answers. */
+static const struct placing {
+    const char *areas;
+    uint32_t b;
+    int start;
+} placings[] = {
+    /* document 01's cases, as change 3 has them */
+    {"10-29 40-99", 10, 0}, {"10-29 40-99", 11, NO_PLACE}, {"0-19 25-99", 5, NO_PLACE},
+    /* no area, and one that takes all */
+    {"", 100, 0}, {"", 101, NO_PLACE}, {"0-99", 1, NO_PLACE},
+    /* a gap that starts on a multiple of 16, one byte after one, one byte before one: 8 bytes fit exactly, and 9 do not */
+    {"0-15 24-99", 8, 16}, {"0-15 24-99", 9, NO_PLACE},
+    {"0-16 40-99", 8, 32}, {"0-16 40-99", 9, NO_PLACE},
+    {"0-14 24-99", 8, 16}, {"0-14 24-99", 9, NO_PLACE},
+    /* a multiple of 8 is no place */
+    {"0-7 16-99", 8, NO_PLACE}, {"0-7 24-99", 8, 16},
+    /* a gap's first multiple is behind its end, its end, its last byte */
+    {"0-16 31-99", 1, NO_PLACE}, {"0-16 32-99", 1, NO_PLACE}, {"0-16 33-99", 1, 32}, {"0-16 33-99", 2, NO_PLACE},
+    /* the quarter's last gap */
+    {"0-94", 4, 96}, {"0-94", 5, NO_PLACE}, {"0-95", 4, 96}, {"0-96", 1, NO_PLACE},
+    /* the smaller gap has B bytes, but not from its first multiple, and is passed over */
+    {"0-19 25-39 60-99", 5, 48}, {"0-19 25-39 60-99", 12, 48}, {"0-19 25-39 60-99", 13, NO_PLACE},
+    {"0-28 40-63 80-99", 8, 32}, {"0-28 40-63 80-99", 9, 64}, {"0-28 40-63 80-99", 16, 64}, {"0-28 40-63 80-99", 17, NO_PLACE},
+    /* of gaps that fit the smaller wins, although fewer bytes remain in the larger from its first multiple */
+    {"0-15 36-49 74-99", 8, 16}, {"0-1 26-47 68-99", 8, 48},
+    /* among equals the lowest start wins, whatever remains; where it does not fit, the other */
+    {"20-39 60-99", 12, 0}, {"16-31 48-99", 16, 0}, {"0-1 22-31 52-99", 6, 16}, {"0-1 22-31 52-99", 7, 32},
+    /* seven objects of one byte, and no eighth */
+    {"0-0 16-16 32-32 48-48 64-64 80-80", 1, 96}, {"0-0 16-16 32-32 48-48 64-64 80-80 96-96", 1, NO_PLACE},
+    /* areas in another order than their places, and side by side */
+    {"52-99 22-31 0-1", 7, 32}, {"20-31 48-99 0-19", 16, 32},
+    {"33-33 3-3 40-99 1-1", 1, 0}, {"33-33 3-3 40-99 1-1", 2, 16}, {"33-33 3-3 40-99 1-1", 17, 16}, {"33-33 3-3 40-99 1-1", 18, NO_PLACE},
+};
+
+/* A record whose partition has these areas, numbered from 1, and a medium without a zero. How many areas. */
+static uint32_t hand_made(int partition, const char *areas)
+{
+    uint32_t *t = table_of(&drive, partition), first, last;
+    int length;
+    memset(buffer, FILL, sizeof buffer);
+    memset(&drive, 0, sizeof drive);
+    drive.size = PLACED_MEDIUM;
+    every_key();
+    t[VERSION_AT] = t[LAST_AT] = PLACED_VERSION;
+    for (; sscanf(areas, "%" SCNu32 "-%" SCNu32 "%n", &first, &last, &length) == 2; areas += length)
+        add_object(t, t[COUNT_AT] + 1, PLACED_VERSION, last + 1 - first, first);
+    return t[COUNT_AT];
+}
+
+/* The row of a request to that partition. */
+static uint64_t placed_row(int partition, int operation, uint32_t object, uint32_t a, uint32_t b, const uint8_t *data)
+{
+    ask(operation, object, PLACED_VERSION, a, b);
+    who.partition = (uint8_t)partition;
+    make(key_at(&drive, key_place(SIEVELAST_SLOT_BLACK, partition)), data);
+    struct lending l = lending();
+    l.medium_len = PLACED_MEDIUM;
+    return put(l).row;
+}
+
+/* Seen in the lent record's table, and by the bytes that are zeroed: these, and none beside them. */
+static void placed(const struct placing *c, int partition)
+{
+    static uint8_t right[sizeof buffer];
+    uint32_t n = hand_made(partition, c->areas), fits = c->start != NO_PLACE, start = fits ? (uint32_t)c->start : 0;
+    const uint32_t *t = table_of(&drive, partition);
+    snprintf(under_way, sizeof under_way, "areas %s and B = %" PRIu32 " in partition %d", c->areas, c->b, partition);
+    memset(right, FILL, sizeof right);
+    memset(right + BESIDE + partition * PLACED_QUARTER + start, 0, fits ? c->b : 0);
+    EXPECT_NUMBER(placed_row(partition, SIEVELAST_CREATE, 0, NEW, c->b, NULL), fits ? 0 : 20);
+    EXPECT_NUMBER(t[COUNT_AT], n + fits);
+    EXPECT_NUMBER(t[NUMBERS_AT + n], fits ? NEW : 0);
+    EXPECT_NUMBER(t[STARTS_AT + n], start);
+    EXPECT_NUMBER(t[SIZES_AT + n], fits ? c->b : 0);
+    EXPECT(!memcmp(buffer, right, sizeof buffer));
+}
+
+static void places(void)
+{
+    for (size_t i = 0; i < sizeof placings / sizeof *placings; i++)
+        for (int partition = 0; partition < SIEVELAST_PARTITIONS; partition++)
+            placed(&placings[i], partition);
+    *under_way = 0;
+}
+
+/* Row 1 asks for no step: an object that starts anywhere is looked at, written, read and deleted, and another created beside it. */
+static void any_start(void)
+{
+    static const uint8_t text[9] = "shape 471";
+    static const struct { int operation; uint32_t object, a, b; } uses[] = {
+        {SIEVELAST_LOOK, 1, 0, 0}, {SIEVELAST_WRITE, 1, 0, sizeof text}, {SIEVELAST_READ, 1, 0, sizeof text}, {SIEVELAST_LOOK, 0, 0, 0},
+        {SIEVELAST_CREATE, 0, NEW, 1}, {SIEVELAST_DELETE, 1, 0, 0},
+    };
+    for (uint32_t start = 0; start + sizeof text <= PLACED_QUARTER; start++) {
+        int partition = (int)start % SIEVELAST_PARTITIONS;
+        snprintf(under_way, sizeof under_way, "%" PRIu32 "-%zu is an area of partition %d", start, start + sizeof text - 1, partition);
+        EXPECT_NUMBER(hand_made(partition, under_way), 1);
+        for (size_t i = 0; i < sizeof uses / sizeof *uses; i++)
+            EXPECT_NUMBER(placed_row(partition, uses[i].operation, uses[i].object, uses[i].a, uses[i].b, text), 0);
+        EXPECT(!memcmp(medium + partition * PLACED_QUARTER + start, text, sizeof text));
+        EXPECT_NUMBER(table_of(&drive, partition)[COUNT_AT], 1);
+    }
+    *under_way = 0;
 }
 
 /* ---- row 12 and two heads under one holder number, each counting from zero: the nonce has the object */
@@ -590,13 +707,6 @@ static void put_draft(struct tally *t, struct choices *s)
     put_spoiled(t, f.frame, f.length, f.clock, draft_space(&f, s));
 }
 
-/* All keys set, as no list of calls has to. */
-static void every_key(void)
-{
-    for (size_t i = 0; i < sizeof drive.keys; i++)
-        drive.keys[i] = i < FLAGS_AT ? (uint8_t)(i * 11 + 3) : 1;
-}
-
 /* Each number of each part, in every way, before a read that would be granted, and before a draft; of the long parts only every so
  * many. */
 static void spoil_each(size_t step)
@@ -674,6 +784,8 @@ int main(int argc, char **argv)
     frame_lengths();
     rows_of_the_fields();
     rows_of_the_state();
+    places();
+    any_start();
     two_heads();
     entries_moved();
     memory_of_objects();

@@ -40,6 +40,130 @@ __attribute__((unused)) static void objects_stay(const uint32_t *before, uint32_
     }
 }
 
+/* Whether an area of the record starts off the step. */
+__attribute__((unused)) static int off_step(const uint32_t *tables)
+{
+    for (const uint32_t *t = tables; t < tables + SIEVELAST_RECORD_TABLES; t += TABLE_NUMBERS)
+        for (uint32_t i = 0; i < t[COUNT_AT] && i < SIEVELAST_MOST_OBJECTS; i++)
+            if (t[STARTS_AT + i] % STEP)
+                return 1;
+    return 0;
+}
+
+/* ---- drives that put a create's area by another rule than change 3's */
+#if BROKEN_gate > 21
+enum { OTHER_STEP = 8, MOST_BYTES = 4096, NO_GAP = 20 };
+
+static uint64_t wrong_place(struct gap g, uint64_t quarter_start)
+{
+    switch (BROKEN_gate) {
+    case 22: /* steps of eight bytes */
+        return (g.from + OTHER_STEP - 1) / OTHER_STEP * OTHER_STEP;
+    case 23: /* the place rounded down */
+        return g.from / STEP * STEP;
+    case 24: /* multiples counted from the medium's start */
+        return (quarter_start + g.from + STEP - 1) / STEP * STEP - quarter_start;
+    case 25: /* a multiple on which the gap starts passed over */
+        return (g.from / STEP + 1) * STEP;
+    default:
+        return gap_place(g);
+    }
+}
+
+static int wrong_fit(struct gap g, uint64_t place, uint32_t b)
+{
+    switch (BROKEN_gate) {
+    case 26: /* fitting judged from the gap's start */
+        return g.from + b <= g.end;
+    case 27: /* an exact fit refused */
+        return place + b < g.end;
+    case 28: /* one byte more granted */
+        return place + b <= g.end + 1;
+    default:
+        return place + b <= g.end;
+    }
+}
+
+struct choice {
+    uint64_t start, zeroed, length; /* where the area starts, and from where its bytes are zeroed; NOWHERE where no gap fits */
+};
+
+static struct choice wrong_choice(const uint32_t *t, uint64_t quarter, const struct paper_call *q)
+{
+    struct choice best = {NOWHERE, NOWHERE, NOWHERE};
+    for (uint32_t i = 0; i <= t[COUNT_AT]; i++) {
+        struct gap g = gap_behind(t, quarter, i);
+        uint64_t place = wrong_place(g, (uint64_t)q->partition * quarter);
+        uint64_t length = g.end - (BROKEN_gate == 29 ? place : g.from); /* 29: gaps measured from their first multiple */
+        struct choice c = {place, BROKEN_gate == 30 ? g.from : place, length}; /* 30: zeroed from the gap's start */
+        int wins = c.length < best.length || (c.length == best.length && c.start < best.start);
+        if (g.from < g.end && wrong_fit(g, place, q->b) && wins)
+            best = c;
+    }
+    return best;
+}
+
+static void copy(void *to, const void *from, size_t n)
+{
+    if (n)
+        memcpy(to, from, n);
+}
+
+/* The real drive on a medium with wider quarters, where the partition's objects lie behind the narrower one, so that it finds room for
+ * the new one; then all is put where the wrong rule has it, as far as the medium goes. */
+static struct sievelast_answered placed(struct choice c, const struct paper_call *q, GATE_PARAMETERS)
+{
+    static uint8_t wider[MOST_BYTES + SIEVELAST_PARTITIONS * SIEVELAST_MOST_OBJECTS];
+    uint64_t quarter = size / SIEVELAST_PARTITIONS, wide = SIEVELAST_PARTITIONS * (quarter + SIEVELAST_MOST_OBJECTS);
+    uint32_t *t = tables + q->partition * TABLE_NUMBERS, before[TABLE_NUMBERS], n = t[COUNT_AT];
+    copy(before, t, sizeof before);
+    for (uint32_t i = 0; i < n; i++)
+        t[SIZES_AT + i] = 1, t[STARTS_AT + i] = (uint32_t)quarter + i;
+    struct sievelast_answered a =
+        __real_sievelast_gate_parts(wide, PARTS_PASSED, wider, wide, frame, frame_len, clock, reply, reply_len);
+    copy(t + SIZES_AT, before + SIZES_AT, n * sizeof *t);
+    copy(t + STARTS_AT, before + STARTS_AT, n * sizeof *t);
+    if (a.row)
+        return a;
+    t[STARTS_AT + n] = (uint32_t)c.start;
+    for (uint64_t i = 0, at = (uint64_t)q->partition * quarter + c.zeroed; i < q->b && at + i < medium_len; i++)
+        medium[at + i] = 0;
+    return a;
+}
+
+/* The real drive where the wrong rule finds no gap: a grant is undone, and row 20 comes before what the real drive goes on to. */
+static struct sievelast_answered nowhere(const struct paper_call *q, GATE_PARAMETERS)
+{
+    static uint8_t medium_before[MOST_BYTES], reply_before[MOST_BYTES];
+    uint32_t before[SIEVELAST_RECORD_TABLES];
+    copy(before, tables, sizeof before);
+    copy(medium_before, medium, medium_len);
+    copy(reply_before, reply, reply_len);
+    struct sievelast_answered a = __real_sievelast_gate_parts(GATE_PASSED), refused = {NO_GAP, 0};
+    if (a.row == 0) {
+        copy(tables, before, sizeof before);
+        copy(medium, medium_before, medium_len);
+        copy(reply, reply_before, reply_len);
+        lengths[q->memory]--;
+    }
+    return a.row && a.row <= NO_GAP ? a : refused;
+}
+
+/* The real drive, but for where a create puts its area. */
+static struct sievelast_answered misplaced(GATE_PARAMETERS)
+{
+    struct sievelast_drive d = {.size = size};
+    copy(d.tables, tables, sizeof d.tables);
+    copy(d.lengths, lengths, sizeof d.lengths);
+    int judged = paper_sound(&d) && medium_len == size && !row_2_to_7(frame, frame_len);
+    if (!judged || paper_call_of(frame).operation != SIEVELAST_CREATE)
+        return __real_sievelast_gate_parts(GATE_PASSED);
+    struct paper_call q = paper_call_of(frame);
+    struct choice c = wrong_choice(table_of(&d, q.partition), quarter_of(&d), &q);
+    return c.start == NOWHERE ? nowhere(&q, GATE_PASSED) : placed(c, &q, GATE_PASSED);
+}
+#endif
+
 uint64_t __wrap_sievelast_format_parts(FORMAT_PARAMETERS)
 {
     uint64_t kept = *highwater;
@@ -61,7 +185,14 @@ struct sievelast_answered __wrap_sievelast_gate_parts(GATE_PARAMETERS)
     uint32_t before[SIEVELAST_RECORD_ENTRIES];
     memcpy(held, lengths, sizeof held);
     memcpy(before, entries, sizeof before);
+#if BROKEN_gate == 21 /* row 1 asks for the step */
+    struct sievelast_answered unsound = {1, 0};
+    struct sievelast_answered a = off_step(tables) ? unsound : __real_sievelast_gate_parts(GATE_PASSED);
+#elif BROKEN_gate > 21
+    struct sievelast_answered a = misplaced(GATE_PASSED);
+#else
     struct sievelast_answered a = __real_sievelast_gate_parts(GATE_PASSED);
+#endif
 #if BROKEN_gate == 3 /* one byte past the reply space */
     if (a.row == 0)
         spoil(reply + reply_len);

@@ -8,7 +8,7 @@
 #include "lend.h"
 #include "spoil.h"
 
-enum { MOST_STEPS = 40, MOST_SIZE = PAGE, RAW_FRAME = 200 };
+enum { MOST_STEPS = 40, MOST_SIZE = PAGE, RAW_FRAME = 200, TRANSFER = 16 };
 
 static struct area parts[RECORD_PARTS], medium, frame, reply, master, key;
 static struct sievelast_drive drive; /* what the parts held after the last call */
@@ -85,21 +85,24 @@ static void a_format(struct choices *s)
     MUST(size == 0 || !memcmp(medium.lent, right_medium, size));
 }
 
+/* Objects in partition 0, each in a room of its own, by falling or by rising starts. Areas start anywhere, on a step of the transfer unit
+ * or off it. Behind each is a gap, or none: gaps of up to three lengths in turn, so that some are equal. */
+static void prepare_objects(struct choices *s)
+{
+    uint32_t *t = table_of(&drive, 0), n = choose(s, SIEVELAST_MOST_OBJECTS + 1), spread = choose(s, 256);
+    uint32_t rising = spread % 2, more = spread / 2 % 4, gap = spread / 8, room = n ? (uint32_t)quarter_of(&drive) / n : 0;
+    for (uint32_t i = 0; room && i < n; i++)
+        add_object(t, i + 1, t[LAST_AT], room - (gap + i % 3 * more) % room, room * (rising ? i : n - 1 - i));
+}
+
 /* A fresh record made one that has seen much, so that a list need not begin with all that: every key is set, partition 0 has objects,
- * gaps between them or not, and its replay memory and the fifth have entries. */
+ * gaps between them or not, its replay memory and the fifth have entries, and no byte of the medium is 0. */
 static void prepare(struct choices *s)
 {
-    uint32_t *t = table_of(&drive, 0), n = choose(s, SIEVELAST_MOST_OBJECTS + 1), gap = choose(s, 3);
-    uint32_t room = n ? (uint32_t)quarter_of(&drive) / n : 0;
+    memset(medium.lent, FILL, medium.length);
     for (size_t i = 0; i < sizeof drive.keys; i++)
         drive.keys[i] = i < FLAGS_AT ? (uint8_t)(i * 11 + 3) : 1;
-    t[COUNT_AT] = room > gap ? n : 0;
-    for (uint32_t i = 0; i < t[COUNT_AT]; i++) {
-        t[NUMBERS_AT + i] = i + 1;
-        t[VERSIONS_AT + i] = t[LAST_AT];
-        t[SIZES_AT + i] = room - gap;
-        t[STARTS_AT + i] = room * (n - 1 - i); /* the last object first */
-    }
+    prepare_objects(s);
     drive.lengths[0] = choose(s, SIEVELAST_MOST_ENTRIES + 1);
     drive.lengths[4] = choose(s, SIEVELAST_MOST_ENTRIES + 1);
     drive.highwater = choose(s, 12000);
@@ -113,8 +116,19 @@ static void prepare(struct choices *s)
 /* ---- a call of the gate */
 static uint8_t medium_before[MOST_SIZE], right_medium[MOST_SIZE], right_reply[DRAFT_REPLY];
 
+/* A create's object is its partition's last, has the number and size that were asked for, starts where the transfer unit can move it, and
+ * lies inside the quarter. */
+static void promised_object(const struct paper_call *q, struct sievelast_drive *after)
+{
+    const uint32_t *t = table_of(after, q->partition), last = t[COUNT_AT] - 1;
+    MUST(last < SIEVELAST_MOST_OBJECTS);
+    MUST(t[NUMBERS_AT + last] == q->a && t[SIZES_AT + last] == q->b);
+    MUST(t[STARTS_AT + last] % TRANSFER == 0);
+    MUST((uint64_t)t[STARTS_AT + last] + q->b <= after->size / SIEVELAST_PARTITIONS);
+}
+
 /* What holds of every call, judged without the paper's gate. */
-static void promised(struct sievelast_answered a, const struct sievelast_drive *before, const struct sievelast_drive *after)
+static void promised(struct sievelast_answered a, const struct sievelast_drive *before, struct sievelast_drive *after)
 {
     MUST(a.row <= 23);
     MUST(after->size == before->size);
@@ -129,6 +143,8 @@ static void promised(struct sievelast_answered a, const struct sievelast_drive *
     if (a.row == 0) {
         struct paper_call q = paper_call_of(frame.lent);
         MUST(a.length == reply_length(&q) && a.length <= reply.length);
+        if (q.operation == SIEVELAST_CREATE)
+            promised_object(&q, after);
     }
     for (size_t i = a.length; i < reply.length; i++)
         MUST(reply.lent[i] == FILL);

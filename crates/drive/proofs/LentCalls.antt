@@ -1,4 +1,5 @@
--- Demands 1 and 3, the story and what row 12 answers, of lent calls: a list of them is one of calls by value, whose theorems say the rest.
+-- Demands 1 and 3, the story and the theorems beside them, of lent calls: a list of them is one of calls by value, whose theorems
+-- say the rest.
 use mathlib.Core.Path.{refl}
 use mathlib.Core.List.{[], _∷_, List, map}
 use Prim.Native.Nat.{ℕ}
@@ -15,11 +16,14 @@ use Rattle.drive.specs.Lent.{
   AllOfLentDemand3,
   AllOfLentStory,
   AllOfLentOnlyRepeats,
+  AllOfLentPlaces,
+  AllOfLentOnSteps,
 }
 use Rattle.drive.proofs.Demand1.{demand1}
 use Rattle.drive.proofs.Demand3.{demand3}
 use Rattle.drive.proofs.ChainStory.{story}
 use Rattle.drive.proofs.ChainRepeats.{only-repeats}
+use Rattle.drive.proofs.ChainSteps.{on-steps, places}
 
 lent-chain : (s : DriveState) (calls : List LentCall) → LentChain s calls → Chain s (map madeFrom calls)
 unfolding LentChain Chain
@@ -49,3 +53,10 @@ lent-story medium F master key d zeroed calls made =
 pub lent-only-repeats : AllOfLentOnlyRepeats
 lent-only-repeats medium F master key d zeroed calls made =
     only-repeats medium F master key (formattedWith 0 d) zeroed (map madeFrom calls) (lent-made medium F master key d zeroed calls made)
+
+pub lent-places : AllOfLentPlaces
+lent-places s c m = places s (madeFrom c) m
+
+pub lent-on-steps : AllOfLentOnSteps
+lent-on-steps medium F master key d zeroed calls made =
+    on-steps medium F master key (formattedWith 0 d) zeroed (map madeFrom calls) (lent-made medium F master key d zeroed calls made)

@@ -6,4 +6,5 @@ pub mod Met
 pub mod Chain
 pub mod ChainStory
 pub mod ChainRepeats
+pub mod ChainSteps
 pub mod Lent

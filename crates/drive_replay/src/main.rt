@@ -1,14 +1,15 @@
-// Replays a trace of formats and calls against the drive, and prints for each record a line with what it left behind: row,
+// Replays a trace of formats, calls and objects put into the record against the drive, and prints for each record a line with what it left behind: row,
 // reply length, the whole reply space, a digest of the medium and of the 8 bytes behind it. tests/model/src/bin/library.rs
 // has the layouts of both. A record that does not fit the buffers, or is none, ends the output with the line `cut`.
 //
-// `stdin` is the trace that `target/model/library 261 12 stdin stdout` writes (tests/model/build makes that program), and
+// `stdin` is the trace that `target/model/library 920 12 stdin stdout` writes (tests/model/build makes that program), and
 // `stdout` is what it expects.
 ghost use mathlib.Core.Path.{_≡_};
 ghost use lib.ListN.{length};
 ghost use Rattle.drive_replay.specs.Trace.{headSize, mediumSize, bufferSize, Fits};
 use drive::Answer;
 use drive::Drive;
+use rules::Object;
 use trace::Record;
 
 mod text;
@@ -25,6 +26,11 @@ const BUFFER_SIZE: usize = 70000;
 
 // A format record; of a call record the bytes before its frame.
 const HEAD_SIZE: usize = 96;
+
+// How many numbers the tables have, and one partition's table.
+const TABLES: usize = drive::TABLES;
+
+const TABLE: usize = state::TABLE;
 
 // The loop's state between two records: the drive, M, and how many bytes of output are not written yet.
 struct LoopState {
@@ -72,7 +78,71 @@ fn prepare(r: Record, medium: &mut [u8], reply: &mut [u8])
     fill(&mut reply[..space], r.fill);
 }
 
-// The record's own format or call.
+// A number of four bytes.
+fn four(head: &[u8], at: usize) -> u32 {
+    octets::number(head, at, 4) as u32
+}
+
+// Puts the record's object behind those that a table has, and the last version given.
+fn put_object(table: &mut [u32], head: &[u8]) {
+    let o = Object {
+        number: four(head, 4),
+        version: four(head, 8),
+        size: four(head, 12),
+        start: four(head, 16),
+    };
+    state::create(table, o);
+    if table.len() == TABLE {
+        table[state::LAST] = four(head, 20);
+    }
+}
+
+// Whether a partition has a place for one object more; no partition over 3 has.
+fn has_place(tables: [u32; TABLES], partition: usize) -> bool {
+    if partition > 3 {
+        return false;
+    }
+    let from = TABLE * partition;
+    let to = from + TABLE;
+    state::object_count(&tables[from..to]) < rules::MOST_OBJECTS
+}
+
+// What a record is: an object for which there is no place is none.
+fn kind_of(kind: u8, tables: [u32; TABLES], head: &[u8]) -> u8 {
+    let p = octets::number(head, 1, 1) as usize;
+    if (kind == trace::OBJECT) & !has_place(tables, p) {
+        return trace::CUT;
+    }
+    kind
+}
+
+// The tables with the record's object.
+fn tables_with_object(tables: [u32; TABLES], head: &[u8]) -> [u32; TABLES] {
+    let mut t = tables;
+    let p = octets::number(head, 1, 1) as usize;
+    if p > 3 {
+        return t;
+    }
+    let from = TABLE * p;
+    let to = from + TABLE;
+    put_object(&mut t[from..to], head);
+    t
+}
+
+// The drive with the record's object.
+fn with_object(d: Drive, head: &[u8]) -> Answer {
+    let mut drive = d;
+    let old = drive.tables;
+    let tables = tables_with_object(old, head);
+    drive.tables = tables;
+    Answer {
+        row: 0,
+        length: 0,
+        drive,
+    }
+}
+
+// The record's own format, call or object.
 fn answer(
     d: Drive,
     r: Record,
@@ -99,6 +169,9 @@ fn answer(
             length: 0,
             drive,
         };
+    }
+    if r.kind == trace::OBJECT {
+        return with_object(d, head);
     }
     let n = r.frame;
     let space = r.space;
@@ -182,8 +255,11 @@ fn run(
     while left > 0 {
         left -= 1;
         let r = trace::next(t.size, head, frame);
-        if r.kind >= trace::END {
-            finish(out, t.unwritten, r.kind);
+        let d = t.drive;
+        let tables = d.tables;
+        let kind = kind_of(r.kind, tables, head);
+        if kind >= trace::END {
+            finish(out, t.unwritten, kind);
             return;
         }
         t = replay(t, r, head, medium, frame, reply, out);

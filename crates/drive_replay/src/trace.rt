@@ -5,14 +5,16 @@ ghost use lib.ListN.{length};
 ghost use Rattle.drive_replay.specs.Trace.{headSize, bufferSize, Fits};
 use libc::STDIN_FILENO;
 
-// What comes next in the input: a format or a call that fits the buffers, nothing, or anything else.
+// What comes next in the input: a format, a call that fits the buffers, an object, nothing, or anything else.
 pub const FORMAT: u8 = 1;
 
 pub const CALL: u8 = 2;
 
-pub const END: u8 = 3;
+pub const OBJECT: u8 = 3;
 
-pub const CUT: u8 = 4;
+pub const END: u8 = 4;
+
+pub const CUT: u8 = 5;
 
 // The largest frame, reply space and M, and the longest key.
 const SIZE_LIMIT: usize = 70000;
@@ -32,8 +34,8 @@ pub const KEY_AT: usize = 56;
 // The bytes behind the medium that are filled and printed with it.
 pub const BEHIND: usize = 8;
 
-// A record, with 0 for what its kind has not. `size` is M, for a call that of the last format; `lent` is how many bytes
-// of the medium buffer are lent.
+// A record, with 0 for what its kind has not. `size` is M, for a call or an object that of the last format; `lent` is how
+// many bytes of the medium buffer are lent. An object's numbers stay in the head.
 pub struct Record {
     pub kind: u8,
     pub fill: u8,
@@ -47,14 +49,14 @@ pub struct Record {
     pub space: usize,
 }
 
-// No record: the end of the input, or anything else.
-fn nothing(kind: u8) -> Record
-    ensures { λ r. ⌜ Fits r ⌝ }
+// A record that has no more than its kind and M.
+fn bare(kind: u8, size: usize) -> Record
+    ensures { λ r. ⌜ (size ≤ bufferSize → Fits r) ⌝ }
 {
     Record {
         kind,
         fill: 0,
-        size: 0,
+        size,
         lent: 0,
         first: 0,
         master: 0,
@@ -63,6 +65,13 @@ fn nothing(kind: u8) -> Record
         frame: 0,
         space: 0,
     }
+}
+
+// No record: the end of the input, or anything else.
+fn nothing(kind: u8) -> Record
+    ensures { λ r. ⌜ Fits r ⌝ }
+{
+    bare(kind, 0)
 }
 
 fn format_in(head: &[u8]) -> Record {
@@ -166,6 +175,10 @@ pub fn next(size: usize, head: &mut [u8], frame: &mut [u8]) -> Record
     }
     if head[0] == b'C' {
         return next_call(size, head, frame);
+    }
+    if head[0] == b'O' {
+        let r = bare(OBJECT, size);
+        return fitting(r);
     }
     nothing(CUT)
 }

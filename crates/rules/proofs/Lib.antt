@@ -1,6 +1,6 @@
 -- The theorems over document 01's definitions: demand 1 (`Answers`), demand 2 (`RoundTrip`, `RepliesBack`), demand 3
 -- (`Demand`), the placing rule (`Placing`), the customer's story (`OneLog`, `OpensNothing`); and over document 02's: the
--- shift report (`Counts`), the two heads (`TwoHeads`). The other files lead to these.
+-- shift report (`Counts`), the two heads (`TwoHeads`), the sixteen-byte steps (`Steps`). The other files lead to these.
 pub mod Answers
 -- the placing rule
 pub mod Gaps
@@ -33,3 +33,5 @@ pub mod Demand2
 pub mod Counts
 -- the two heads
 pub mod TwoHeads
+-- the sixteen-byte steps
+pub mod Steps

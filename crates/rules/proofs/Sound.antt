@@ -4,7 +4,7 @@ use mathlib.Core.Logic.{_⊎_, inl, inr}
 use mathlib.Core.Bool.{_||_, Bool, cond, false, true}
 use mathlib.Core.List.{[], _∷_, List, List·Memᴰ, List·Memᴰ·not-nil, map}
 use Prim.Native.Nat.{_+_, _<_, _≤_, ℕ}
-use native.Mathlib.Decide.{decLt}
+use native.Mathlib.Decide.{decLt, ℕ-discrete}
 use native.Mathlib.Omega.{arith}
 use lib.Dec.{leb}
 use lib.ListN.{length, length-append, length-map, List·getD-eq-default}
@@ -20,6 +20,7 @@ use Rattle.lemmas.specs.ListLaws.{
   every-one,
   every-update,
   length-keep,
+  length-update,
   nth-update,
   nth-update-other,
   pairs-append-one,
@@ -170,7 +171,7 @@ raised-sound q n p h = partition-sound q (raised n p) (go (n is 0))
       pair = pairs-map apart f (λ a b. same a b (a .number is n) (b .number is n)) (p .objects) (s .pair);
     }
 
-created-sound : (q number size start : ℕ) (p : Partition Object) → soundPartition q p ≡ true → 1 ≤ number → 1 ≤ size
+pub created-sound : (q number size start : ℕ) (p : Partition Object) → soundPartition q p ≡ true → 1 ≤ number → 1 ≤ size
     → every (λ (a : Object). a .number isnt number) (p .objects) ≡ true → length (p .objects) < 16
     → Placed q (p .objects) size start
     → soundPartition q (created number size start p) ≡ true
@@ -272,3 +273,24 @@ pub with-scope-there : {A : Type 0} (c : Credential) (s : Scope A) (t : Tables A
     → partitionAt (withScope c s t) r ≡ partitionAt t r
 with-scope-there {A} c s t r e =
     nth-update-other (c .partition) r (λ (old : Partition A). s .partition) (t .partitions) (emptyPartition 0) e
+
+-- an object of a partition, where one was put back: of the new one, or it was there before
+pub with-scope-has : {A : Type 0} (c : Credential) (s : Scope A) (t : Tables A) (r : ℕ) (a : A)
+    → List·Memᴰ a (partitionAt (withScope c s t) r .objects)
+    → ((r ≡ c .partition) × List·Memᴰ a (s .partition .objects)) ⊎ List·Memᴰ a (partitionAt t r .objects)
+with-scope-has {A} c s t r a k = go (ℕ-discrete r (c .partition)) (decLt (c .partition) (length (t .partitions)))
+  where
+    put : Partition A → Partition A
+    put old = s .partition
+
+    go : Dec (r ≡ c .partition) → Dec (c .partition < length (t .partitions))
+        → ((r ≡ c .partition) × List·Memᴰ a (s .partition .objects)) ⊎ List·Memᴰ a (partitionAt t r .objects)
+    go (no e) f = inr (subst (λ (p : Partition A). List·Memᴰ a (p .objects)) (with-scope-there c s t r e) k)
+    go (yes e) (yes f) = inl (
+      e,
+      subst (λ (p : Partition A). List·Memᴰ a (p .objects)) (with-scope-here c s t f)
+          (subst (λ (n : ℕ). List·Memᴰ a (partitionAt (withScope c s t) n .objects)) e k),
+    )
+    go (yes e) (no f) = absurd (List·Memᴰ·not-nil (subst (λ (p : Partition A). List·Memᴰ a (p .objects))
+        (List·getD-eq-default (withScope c s t .partitions) (emptyPartition 0) {n = r}
+        (omega (arith, e, length-update (c .partition) put (t .partitions)))) k))

@@ -1,5 +1,5 @@
--- Document 01, operation 5: where a new area (extent) starts, in the document's words and as a computation.
--- That both agree, over any step from 1, is proved in proofs/Gaps.antt and proofs/Placing.antt.
+-- Document 01, operation 5, and document 02, change 3: where a new area (extent) starts, in the documents' words and as a
+-- computation. That both agree, over any step from 1, is proved in proofs/Gaps.antt and proofs/Placing.antt.
 -- q: the quarter. B: the new area's size. Starts count from the quarter's start.
 use mathlib.Core.Bool.{Bool, _&&_, _||_, cond}
 use mathlib.Core.Option.{Option, none, some, Option·map}
@@ -12,7 +12,7 @@ use Rattle.lemmas.specs.Tests.{_under_, _is_}
 use Rattle.lemmas.specs.Lists.{every, keep}
 use Rattle.rules.specs.declared.Object.{Object}
 
--- ---- in the document's words
+-- ---- in the documents' words
 -- byte i of the quarter is in an area
 abbrev pub Taken : List Object → ℕ → Type 0
 Taken objects i = (a : Object) × List·Memᴰ a objects × (a .start ≤ i) × (i < a .start + a .size)
@@ -30,20 +30,21 @@ pub record IsGap (q : ℕ) (objects : List Object) (g : Gap) : Type 0 where
   pub left : (g .from ≡ 0) ⊎ ((i : ℕ) × (i + 1 ≡ g .from) × Taken objects i)
   pub right : (g .to ≡ q) ⊎ Taken objects (g .to)
 
--- areas start at multiples of a step from the quarter's start: document 01's step is 1
+-- "a new area now starts at a multiple of 16 from the quarter's start". Before change 3 it was any byte, a step of 1
 abbrev pub extentStep : ℕ
-extentStep = 1
+extentStep = 16
 
+-- s is a multiple of the step
 abbrev pub Multiple : ℕ → ℕ → Type 0
 Multiple step s = (k : ℕ) × (k * step ≡ s)
 
--- s is the first multiple of the step from the gap's start on
+-- "In a gap the place is the first such multiple": s is the first from the gap's start on
 pub record FirstMultiple (step : ℕ) (g : Gap) (s : ℕ) : Type 0 where
   pub multiple : Multiple step s
   pub behind : g .from ≤ s
   pub first : (t : ℕ) → Multiple step t → g .from ≤ t → s ≤ t
 
--- a gap fits if B bytes remain from there
+-- "and the gap fits if B bytes remain from there"
 abbrev pub Fits : ℕ → ℕ → Gap → Type 0
 Fits step B g = (s : ℕ) × FirstMultiple step g s × (s + B ≤ g .to)
 
@@ -54,7 +55,8 @@ width g = g .to - g .from
 abbrev pub NoWorse : Gap → Gap → Type 0
 NoWorse g h = (width g < width h) ⊎ ((width g ≡ width h) × (g .from ≤ h .from))
 
--- "The area starts at the start of the smallest gap of at least B bytes, lowest start among equals"
+-- Document 01: "The area starts at the start of the smallest gap of at least B bytes, lowest start among equals". Change 3:
+-- "The choice is still the smallest gap that fits, lowest start among equals". Both go by the whole gap, from its own start
 pub record Chosen (step q : ℕ) (objects : List Object) (B s : ℕ) : Type 0 where
   pub gap : Gap
   pub is-gap : IsGap q objects gap
@@ -62,7 +64,7 @@ pub record Chosen (step q : ℕ) (objects : List Object) (B s : ℕ) : Type 0 wh
   pub fits : s + B ≤ gap .to
   pub least : (h : Gap) → IsGap q objects h → Fits step B h → NoWorse gap h
 
--- no gap fits
+-- "no gap fits": row 20
 abbrev pub NoGap : ℕ → ℕ → List Object → ℕ → Type 0
 NoGap step q objects B = (g : Gap) → IsGap q objects g → Fits step B g → ⊥
 

@@ -1,4 +1,5 @@
--- Document 01, "Table of cases, proved of the rules themselves": a list, and one theorem over it, `all-right`.
+-- Document 01, "Table of cases, proved of the rules themselves": a list, and one theorem over it, `all-right`. Its areas are as
+-- change 3 of document 02 has them, with cases at the edges of a step.
 use mathlib.Core.Path.{_≡_, refl}
 use mathlib.Core.Bool.{Bool, true, false, not}
 use mathlib.Core.Option.{Option, none, some}
@@ -50,7 +51,24 @@ pub cases : List Case
 cases =
     placing extentStep (area 10 29 ∷ area 40 99 ∷ []) 10 (some 0)
     ∷ placing extentStep (area 10 29 ∷ area 40 99 ∷ []) 11 none
-    ∷ placing extentStep (area 0 19 ∷ area 25 99 ∷ []) 5 (some 20)
+    -- "areas 0–19, 25–99 with B = 5 now give row 20"; by the step of document 01 it was start 20
+    ∷ placing extentStep (area 0 19 ∷ area 25 99 ∷ []) 5 none
+    ∷ placing 1 (area 0 19 ∷ area 25 99 ∷ []) 5 (some 20)
+    -- a gap that starts on a multiple, one byte after one, one byte before one
+    ∷ placing extentStep (area 0 31 ∷ area 64 99 ∷ []) 32 (some 32)
+    ∷ placing extentStep (area 0 31 ∷ area 64 99 ∷ []) 33 none
+    ∷ placing extentStep (area 0 32 ∷ area 64 99 ∷ []) 16 (some 48)
+    ∷ placing extentStep (area 0 32 ∷ area 64 99 ∷ []) 17 none
+    ∷ placing extentStep (area 0 30 ∷ area 64 99 ∷ []) 32 (some 32)
+    ∷ placing extentStep (area 0 30 ∷ area 64 99 ∷ []) 33 none
+    -- a gap whose first multiple is its end, and one that ends before it
+    ∷ placing extentStep (area 0 16 ∷ area 32 99 ∷ []) 1 none
+    ∷ placing extentStep (area 0 16 ∷ area 31 99 ∷ []) 1 none
+    -- two equal gaps, 40–59 and 80–99: the lower one where it fits, which it does up to 12 bytes from 48 on
+    ∷ placing extentStep (area 0 39 ∷ area 60 79 ∷ []) 12 (some 48)
+    ∷ placing extentStep (area 0 39 ∷ area 60 79 ∷ []) 13 (some 80)
+    -- the smallest gap is 80–99, though of 40–64 fewer bytes remain from 48 on
+    ∷ placing extentStep (area 0 39 ∷ area 65 79 ∷ []) 10 (some 80)
     ∷ timing 10000 5000 false
     ∷ timing 10000 15000 false
     ∷ timing 10000 4999 true

@@ -1,5 +1,5 @@
--- Document 01, read in this order; of document 02 the two heads, behind the demands, and the shift report, behind the
--- program whose input it reads. What a change made of a rule stands at the rule.
+-- Document 01, read in this order; of document 02 the two heads and the sixteen-byte steps, behind the demands, and the
+-- shift report, behind the program whose input it reads. What a change made of a rule stands at the rule.
 pub mod Frame
 pub mod Drive
 pub mod Scope
@@ -11,6 +11,7 @@ pub mod Client
 pub mod Ledger
 pub mod Demands
 pub mod TwoHeads
+pub mod Steps
 pub mod Story
 pub mod Program
 pub mod Report

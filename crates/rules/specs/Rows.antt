@@ -161,7 +161,7 @@ row18 s r = r .operation is 5 && not (missing (find Object.number (r .A) (s .par
 unfoldable pub row19 : Scope Object → Request → Bool
 row19 s r = r .operation is 5 && length (s .partition .objects) is mostObjects
 
--- 20. "Create: no gap has B bytes."
+-- 20. "Create: no gap has B bytes." Change 3 of document 02: "Row 20 is met exactly when no gap fits."
 unfoldable pub row20 : Scope Object → Request → Bool
 row20 s r = r .operation is 5 && missing (placement s (r .B))
 

@@ -12,8 +12,9 @@ pub const TIME_WINDOW: u64 = 5000;
 
 pub const LAST_VERSION: u32 = 4294967295;
 
-// The step of extents ("areas" in document 01): a new one starts at a multiple of it from its quarter's start.
-pub const EXTENT_STEP: u32 = 1;
+// The step of extents ("areas" in the documents): "a new area now starts at a multiple of 16 from the quarter's start"
+// (document 02, change 3).
+pub const EXTENT_STEP: u32 = 16;
 
 // The lengths of a key and of a digest.
 pub const KEY_SIZE: usize = 32;

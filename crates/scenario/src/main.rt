@@ -25,14 +25,15 @@ const TABLES: usize = drive::TABLES;
 
 const KEY_SIZE: usize = rules::KEY_SIZE;
 
-const MEDIUM_SIZE: usize = 400;
+// The largest medium that a scenario has.
+const MEDIUM_SIZE: usize = 1024;
 
 // The scenarios have no longer frame, and no longer reply.
 const FRAME_SIZE: usize = 160;
 
 // What the medium has before the first format.
 fn medium_buffer() -> [u8; MEDIUM_SIZE]
-    ensures { λ r. ⌜ 400 ≡ length r ⌝ }
+    ensures { λ r. ⌜ 1024 ≡ length r ⌝ }
 {
     [0xaa; MEDIUM_SIZE]
 }
@@ -89,13 +90,20 @@ fn format_answer(medium: &mut [u8], first: u32, master: &[u8], key: &[u8]) -> An
     }
 }
 
-// A drive of the line's first version, with a master key and a drive key of so many bytes.
+// A drive of the line's first version, with a master key and a drive key of so many bytes, over as much of the medium as the
+// numbers say.
 fn formatted(n: [u64; NUMBERS], medium: &mut [u8]) -> Answer {
     let master = [0u8; 40];
     let key = [1u8; 40];
     let m = smaller(n[words::B] as usize, master.len());
     let k = smaller(n[words::C] as usize, key.len());
-    format_answer(medium, four(n[words::A]), &master[..m], &key[..k])
+    let size = smaller(n[words::MEDIUM] as usize, medium.len());
+    format_answer(
+        &mut medium[..size],
+        four(n[words::A]),
+        &master[..m],
+        &key[..k],
+    )
 }
 
 // The gate's answer to the frame, with as much of the medium and the reply space lent as the numbers say.

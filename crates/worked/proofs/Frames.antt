@@ -61,10 +61,10 @@ partitionKey = hmac driveKey (requestBytes setsKey ++ seed)
 unfoldable pub workingKey : List ℕ
 workingKey = hmac partitionKey (requestBytes setsKey ++ seed)
 
--- ---- the drive: 256 bytes, F = 1
+-- ---- the drive: 1,024 bytes, so that a quarter has sixteen steps; F = 1
 unfoldable pub begin : State
 begin =
-    let f = format (replicate 256 5) 1 masterKey driveKey in
+    let f = format (replicate 1024 5) 1 masterKey driveKey in
     record { drive = f .drive; medium = f .medium }
 
 -- ---- frames

@@ -1,5 +1,5 @@
 -- A frame that carries its right digest passes row 9, whatever HMAC gives: so the checker can compute a list of calls
--- without computing HMAC. Used by Worked.antt and Heads.antt.
+-- without computing HMAC. Used by Worked.antt, Heads.antt and Areas.antt.
 use mathlib.Core.Path.{_∙_, _≡_, ap, refl, sym}
 use mathlib.Core.Bool.{Bool, cond, false, not, true, true≢false}
 use mathlib.Core.List.{[], _++_, _∷_, List, map}
@@ -20,7 +20,7 @@ use Rattle.rules.specs.declared.Object.{Object}
 use Rattle.rules.specs.declared.Request.{Request}
 use Rattle.rules.specs.BestFit.{bestFit, bestOf, better, free, gaps, next, spot}
 use Rattle.rules.specs.Client.{frameOf}
-use Rattle.rules.specs.Demands.{answer, State, step}
+use Rattle.rules.specs.Demands.{after, answer, State, step}
 use Rattle.rules.specs.Drive.{Drive, format, formatRows, refresh, sameEntry, sound, soundObject, soundPartition}
 use Rattle.rules.specs.declared.Operation.{Operation}
 use Rattle.rules.specs.declared.Operation.the-variants.{Create, Delete, Look, Raise, Read, SetKey, Write}
@@ -167,6 +167,18 @@ said-with s (v ∷ vs) k =
     (λ i. shows (e i) ∷ said (leaves (e i)) (map callOf vs))
     ∙ ap (λ (l : List (List ℕ)). shows (answerWith s v) ∷ l) (said-with (leaves (answerWith s v)) vs (k .1))
 
+-- what a list of calls leaves
+unfoldable pub run : State → List TestCall → State
+run s [] = s
+run s (v ∷ vs) = run (leaves (answerWith s v)) vs
+
+pub after-with : (s : State) (vs : List TestCall) → AllKnown9 s vs → after s (map callOf vs) ≡ run s vs
+unfolding after run AllKnown9 step
+after-with s [] k = refl
+after-with s (v ∷ vs) k =
+    ap (λ (a : Answer Drive). after (leaves a) (map callOf vs)) (answer-with s v (k .0))
+    ∙ after-with (leaves (answerWith s v)) vs (k .1)
+
 -- the two facts, of the digest itself
 pub pass : (key : List ℕ) (c : Credential) (r : Request) (payload : List ℕ)
     → not (same (spread 32 (rightDigest key c r payload)) (rightDigest key c r payload)) ≡ false
@@ -181,10 +193,6 @@ fail key c r payload = wrong-fails (rightDigest key c r payload)
     (length-hmac (hmac key (credentialBytes c)) (covered (r .level) (credentialBytes c) (requestBytes r) payload))
 
 -- ---- longer lists
-unfoldable pub run : State → List TestCall → State
-run s [] = s
-run s (v ∷ vs) = run (leaves (answerWith s v)) vs
-
 pub known-append : (s : State) (vs ws : List TestCall) → AllKnown9 s vs → AllKnown9 (run s vs) ws → AllKnown9 s (vs ++ ws)
 unfolding AllKnown9 run
 known-append s [] ws k l = l

@@ -1,4 +1,4 @@
--- A list of calls to a fresh drive of 256 bytes, F = 1, and what the gate answers, computed without computing HMAC. It
+-- A list of calls to a fresh drive of 1,024 bytes, F = 1, and what the gate answers, computed without computing HMAC. It
 -- meets every row of the gate from 2 on but 21, and a grant of every operation; 21 needs another F, and row 1 another
 -- record or medium.
 use mathlib.Core.Path.{_∙_, _≡_, ap, refl, subst, sym}
@@ -89,7 +89,7 @@ first =
     ∷ signed partitionKey setWorking setsKey seed 100 64
     ∷ put (by 0 0 1 16 0 0 0) (ask 5 0 2 5 10 0) []
     ∷ put (by 0 0 1 16 0 0 0) (ask 5 0 3 5 1 0) []
-    ∷ put (by 0 0 1 16 0 0 0) (ask 5 0 3 6 55 0) []
+    ∷ put (by 0 0 1 16 0 0 0) (ask 5 0 3 6 241 0) []
     ∷ put (by 0 5 2 2 0 0 10) (ask 2 0 4 3 4 4) (1 ∷ 2 ∷ 3 ∷ 4 ∷ [])
     ∷ put (by 0 5 2 1 0 0 10) (ask 1 0 5 2 6 0) []
     ∷ put (by 0 5 1 1 0 0 10) (ask 1 0 6 2 6 0) []
@@ -126,7 +126,7 @@ first-known =
     then pass partitionKey setWorking setsKey seed
     then pass workingKey (by 0 0 1 16 0 0 0) (ask 5 0 2 5 10 0) []
     then pass workingKey (by 0 0 1 16 0 0 0) (ask 5 0 3 5 1 0) []
-    then pass workingKey (by 0 0 1 16 0 0 0) (ask 5 0 3 6 55 0) []
+    then pass workingKey (by 0 0 1 16 0 0 0) (ask 5 0 3 6 241 0) []
     then pass workingKey (by 0 5 2 2 0 0 10) (ask 2 0 4 3 4 4) (1 ∷ 2 ∷ 3 ∷ 4 ∷ [])
     then pass workingKey (by 0 5 2 1 0 0 10) (ask 1 0 5 2 6 0) []
     then pass workingKey (by 0 5 1 1 0 0 10) (ask 1 0 6 2 6 0) []
@@ -290,7 +290,7 @@ no-version =
 empty : ℕ → Call
 empty clock = record { frame = []; clock = clock; space = [] }
 
-too-short : gate (begin .drive) (replicate 255 0) (empty 7) ≡ refused 1 (begin .drive) (replicate 255 0) []
+too-short : gate (begin .drive) (replicate 1023 0) (empty 7) ≡ refused 1 (begin .drive) (replicate 1023 0) []
 unfolding empty firstFrames
 too-short = refl
 
@@ -298,7 +298,7 @@ too-short = refl
 large : Drive
 large = record { size = 16_777_217; tables = begin .drive .tables; memories = begin .drive .memories }
 
-unsound : gate large (replicate 256 0) (empty 7) ≡ refused 1 large (replicate 256 0) []
+unsound : gate large (replicate 1024 0) (empty 7) ≡ refused 1 large (replicate 1024 0) []
 unfolding large empty firstFrames
 unsound = refl
 

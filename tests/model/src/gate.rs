@@ -99,7 +99,7 @@ fn rows_that_apply(drive: &Drive, frame: &[u8], space: usize) -> Vec<u8> {
         (18, op == CREATE && partition.find(r.a).is_some()),
         // Create: 16 objects exist.
         (19, op == CREATE && partition.objects.len() >= MOST_OBJECTS),
-        // Create: no gap has B bytes.
+        // Create: no gap has B bytes. Change 3: "Row 20 is met exactly when no gap fits."
         (20, op == CREATE && chosen_start(drive.quarter(), &areas(&partition.objects), r.b).is_none()),
         // Operations 4, 5: the partition has given version 4,294,967,295.
         (21, (op == RAISE || op == CREATE) && partition.last_given == u32::MAX),
@@ -417,6 +417,28 @@ pub(crate) mod tests {
         assert_eq!(heads.looks([9, 5, 9], 10_000, 10_000), [0, 22, 12]);
         assert_eq!(heads.drive.partitions[0].memory.len(), MOST_ENTRIES);
         assert_eq!(heads.looks([5], 15_001, 15_001), [0]);
+    }
+
+    /// Change 3: "a new area now starts at a multiple of 16 from the quarter's start". Partition 1 starts at byte 100 of the medium, and
+    /// its gaps are 0–29 and 70–99.
+    #[test]
+    fn new_areas_start_on_steps_of_the_quarter() {
+        let (mut drive, mut medium) = drive();
+        drive.partitions[1] = drive.partitions[0].clone();
+        medium.fill(7);
+        let c = Credential { partition: 1, object: 0, version: 1, ..credential() };
+        let mut create = |number, b| {
+            let r = Request { count: b, ..request(CREATE, number, b) };
+            gate(&mut drive, &mut medium, &frame(&c, &r, &[]), 10_000, &mut [0; 200]).0
+        };
+        assert_eq!([create(1, 31), create(1, 10)], [20, 0]); // 0–9, the lower of two gaps of 30 bytes
+        assert_eq!([create(2, 15), create(3, 14)], [0, 0]); // 80–94, since 10–29 has 20 bytes and 14 from byte 16 on; 16–29
+        assert_eq!([create(4, 6), create(4, 5), create(4, 4)], [20, 20, 0]); // 70–79 has 10 bytes, 95–99 has 5; 96–99
+        assert_eq!(create(5, 1), 20); // 17 bytes are free
+        let starts: Vec<(u32, u32)> = drive.partitions[1].objects.iter().map(|o| (o.number, o.start)).collect();
+        assert_eq!(starts, [(9, 30), (1, 0), (2, 80), (3, 16), (4, 96)]);
+        let zeroed: Vec<usize> = (0..medium.len()).filter(|at| medium[*at] == 0).collect();
+        assert_eq!(zeroed, [100..110, 116..130, 180..195, 196..200].map(|area| area.collect::<Vec<usize>>()).concat());
     }
 
     #[test]

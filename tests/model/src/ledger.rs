@@ -31,6 +31,15 @@ impl Ledger {
         Ledger { quarter: (m / 4) as u32, mark: 0, master, drive, partitions: vec![page; 4], grants: HashSet::new() }
     }
 
+    /// For a list that starts from a record which no list of calls makes: an object that the record has behind the others, and the last
+    /// version given that its partition has. Its bytes are the medium's.
+    pub fn join(&mut self, partition: usize, object: &Object, last_given: u32, medium: &[u8]) {
+        let from = partition * self.quarter as usize + object.start as usize;
+        let bytes = medium[from..from + object.size as usize].to_vec();
+        self.partitions[partition].objects.push((object.clone(), bytes));
+        self.partitions[partition].last_given = last_given;
+    }
+
     /// Feeds one call that was not refused by row 1, and checks the grant against the sentences of demand 3. `reply` is the
     /// reply written.
     pub fn call(&mut self, frame: &[u8], clock: u64, row: u8, reply: &[u8]) {
@@ -137,19 +146,66 @@ impl Ledger {
 #[cfg(test)]
 mod tests {
     use super::*;
+    use crate::drive::format;
     use crate::gate::tests::{credential, frame, request};
 
-    /// Feeds looks of the same slot, holder, time and count, granted, at these objects of partitions 0 and 1.
-    fn granted(looks: &[(u8, u32)]) {
+    /// A ledger of quarters of 100 bytes, each with objects 5 and 9 at bytes 5 and 9.
+    fn ledger() -> Ledger {
         let mut ledger = Ledger::new(400, 2, [0; 32], [1; 32]);
         for page in &mut ledger.partitions {
             page.working[0] = Some([5; 32]);
             page.objects = [5, 9].map(|number| (Object { number, version: 2, start: number, size: 1 }, vec![0])).to_vec();
         }
+        ledger
+    }
+
+    /// Feeds looks of the same slot, holder, time and count, granted, at these objects of partitions 0 and 1.
+    fn granted(looks: &[(u8, u32)]) {
+        let mut ledger = ledger();
         for &(partition, object) in looks {
             let c = Credential { partition, object, ..credential() };
             ledger.call(&frame(&c, &request(LOOK, 0, 0), &[]), 10_000, 0, &[]);
         }
+    }
+
+    /// "the area that operation 5 finds among the partition's areas in the ledger", by change 3: gaps 0–4, 6–8 and 10–99.
+    #[test]
+    fn areas_start_on_steps() {
+        let mut ledger = ledger();
+        let c = Credential { object: 0, ..credential() };
+        for b in [6, 2, 68] {
+            let r = Request { count: b, ..request(CREATE, b, b) };
+            ledger.call(&frame(&c, &r, &[]), 10_000, 0, &[]);
+        }
+        let starts: Vec<(u32, u32)> = ledger.partitions[0].objects.iter().map(|(o, _)| (o.number, o.start)).collect();
+        assert_eq!(starts, [(5, 5), (9, 9), (6, 16), (2, 0), (68, 32)]);
+    }
+
+    /// A ledger that an object of a record joined, and the drive and medium of that record.
+    fn joined() -> (Ledger, Drive, Vec<u8>) {
+        let mut medium = vec![0; 400];
+        let (_, mut drive) = format(&mut medium, 2, &[0; 32], &[1; 32]);
+        medium[121..124].copy_from_slice(&[6, 7, 8]);
+        let object = Object { number: 4, version: 3, start: 21, size: 3 };
+        let mut ledger = Ledger::new(400, 2, [0; 32], [1; 32]);
+        ledger.join(1, &object, 5, &medium);
+        drive.partitions[1].objects.push(object);
+        drive.partitions[1].last_given = 5;
+        (ledger, drive, medium)
+    }
+
+    #[test]
+    fn an_object_of_a_record_joins() {
+        let (ledger, drive, medium) = joined();
+        ledger.agrees(&drive, &medium);
+    }
+
+    #[test]
+    #[should_panic]
+    fn an_object_of_a_record_has_its_bytes() {
+        let (ledger, drive, mut medium) = joined();
+        medium[123] = 9;
+        ledger.agrees(&drive, &medium);
     }
 
     #[test]

@@ -22,7 +22,7 @@ abbrev head : tie.After-next Inv-loop μ-loop → tie.At-loop Inv-loop μ-loop
 head c = c .before .before .before .before
 
 abbrev read : tie.After-replay Inv-loop μ-loop → tie.After-next Inv-loop μ-loop
-read c = c .before .before .before .before .before .before .before .before .before .before .before .before
+read c = c .before .before .before .before .before .before .before .before .before .before .before .before .before .before .before
 
 abbrev replayed : tie.After-slice-known11 Inv-loop μ-loop → tie.After-replay Inv-loop μ-loop
 replayed c = c .before .before .before .before .before .before
@@ -41,7 +41,7 @@ long c = (search needs, search needs, search needs)
 
 replay-requires : tie.Need-replay-requires Inv-loop μ-loop
 replay-requires c κs =
-    let n = c .before .before .before .before .before .before .before .before .before .before .before in
+    let n = c .before .before .before .before .before .before .before .before .before .before .before .before .before .before in
     let i = head n .loop .inv in
     let p = start (head n) .pre in
     let r = read-long n in
@@ -62,7 +62,7 @@ run-spec =
     tie.close
     (tie.spec
     Inv-loop μ-loop (λ c. (refl, refl, refl, refl, refl)) (λ c. search needs) (λ c κs. (search needs, search needs))
-    (λ c κs. search needs) (λ c. search needs) (λ c. search needs) (λ c. search needs) (λ c. search needs)
+    (λ c κs. search needs) (λ c κs. search needs) (λ c. search needs) (λ c. search needs) (λ c. search needs) (λ c. search needs)
     (λ c. search needs) (λ c. search needs) replay-requires loop-less loop-again (λ c κs. search needs)
     (λ c. search needs) (λ c. search needs) (λ c. search needs) (λ c. search needs) (λ c. search needs)
     (λ c. search needs))

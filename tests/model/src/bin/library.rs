@@ -1,6 +1,6 @@
 //! `library SEED CALLS OUT.in OUT.expected [big]`: random calls for the drive's library itself, with media, first versions, keys and
-//! reply spaces of many kinds, and what every call must leave behind. Prints how often each row is in it, and how often a frame had a
-//! twin.
+//! reply spaces of many kinds, some on drive records that no list of calls makes, and what every call must leave behind. Prints how often
+//! each row is in it, and how often it has what the tests ask for.
 //!
 //! # The trace, OUT.in
 //!
@@ -31,21 +31,38 @@
 //! 24 – 31  0
 //! 32 ..    frame
 //! ```
+//! Object, 32 bytes:
+//! ```text
+//!  0       4F (O)
+//!  1       partition, 0 to 3
+//!  2 –  3  0
+//!  4 –  7  number
+//!  8 – 11  version
+//! 12 – 15  size
+//! 16 – 19  start, from the quarter's start
+//! 20 – 23  the partition's last version given
+//! 24 – 31  0
+//! ```
 //! The drive that a format or call returns is the next call's, refused or not. After a refused format M stands for the length that
 //! was lent to it; the drive is that of row 24, so only an empty medium fits it.
+//!
+//! By an object record the partition has this object behind those that it has, 16 at most, and this last version given; nothing else of
+//! the drive or of the medium changes. The object need not start on a step, which row 1 does not ask for, and it may leave the drive
+//! record unsound. A record with a partition over 3, or for a partition that has 16 objects already, is none: the player ends with `cut`.
 //!
 //! # What must be printed, OUT.expected
 //!
 //! A line for each record, so that the line's number is the record's: row, reply length, reply space, digest, one space between.
-//! - After a call the reply space is all its bytes in lowercase hexadecimal, written or not; `-` when it has none, and for a format.
+//! - After a call the reply space is all its bytes in lowercase hexadecimal, written or not; `-` when it has none, for a format and for an
+//!   object. The line of an object is `0 0 - DIGEST`.
 //! - The digest is SHA-256, in lowercase hexadecimal, of the first M + 8 bytes of the medium buffer: the medium and 8 bytes behind it.
 //!
 //! `replay < OUT.in` prints it with the model in the drive's place.
 
 use model::digest::{hex, sha256};
-use model::drive::format;
+use model::drive::{format, MOST_MEDIUM};
 use model::rng::Rng;
-use model::traffic::{Done, Tally, Traffic, GUARD};
+use model::traffic::{Breach, Done, Put, Sink, Tally, Traffic, BREACHES, GUARD};
 use std::fs::write;
 
 #[derive(Default)]
@@ -55,44 +72,87 @@ struct Trace {
     tally: Tally,
 }
 
+impl Sink for Trace {
+    fn call(&mut self, done: &Done) {
+        let call = done.call;
+        self.tally.count(done);
+        self.records.extend([b'C', call.fill, 0, 0]);
+        self.records.extend((call.lent as u32).to_be_bytes());
+        self.records.extend(call.clock.to_be_bytes());
+        self.records.extend((call.frame.len() as u32).to_be_bytes());
+        self.records.extend((call.space as u32).to_be_bytes());
+        self.records.extend([0; 8]);
+        self.records.extend(&call.frame);
+        let space = if done.space.is_empty() { "-".to_string() } else { hex(done.space) };
+        self.line(done.row, done.length, &space, done.medium);
+    }
+
+    fn object(&mut self, put: &Put) {
+        let object = put.object;
+        self.records.extend([b'O', put.partition, 0, 0]);
+        for number in [object.number, object.version, object.size, object.start, put.last_given, 0, 0] {
+            self.records.extend(number.to_be_bytes());
+        }
+        self.line(0, 0, "-", put.medium);
+    }
+}
+
+/// What a format is lent.
+struct Lent<'a> {
+    size: usize,
+    f: u32,
+    master: &'a [u8],
+    drive: &'a [u8],
+}
+
+/// What happens after it.
+struct Plot {
+    calls: usize,
+    objects: bool, // come from outside too
+    breach: Option<(Breach, usize)>,
+}
+
+/// Calls and nothing else.
+fn plainly(calls: usize) -> Plot {
+    Plot { calls, objects: false, breach: None }
+}
+
 impl Trace {
-    /// One format and the calls after it.
-    fn life(&mut self, rng: &mut Rng, size: usize, f: u32, master: &[u8], drive: &[u8], calls: usize) {
+    fn line(&mut self, row: u8, length: usize, space: &str, medium: &[u8]) {
+        self.lines.push_str(&format!("{row} {length} {space} {}\n", hex(&sha256(medium))));
+    }
+
+    /// One format and what comes after it.
+    fn life(&mut self, rng: &mut Rng, lent: &Lent, plot: &Plot) {
         let fill = rng.next() as u8;
-        self.records.extend([b'F', fill, master.len() as u8, drive.len() as u8]);
-        self.records.extend((size as u32).to_be_bytes());
-        self.records.extend(f.to_be_bytes());
+        self.records.extend([b'F', fill, lent.master.len() as u8, lent.drive.len() as u8]);
+        self.records.extend((lent.size as u32).to_be_bytes());
+        self.records.extend(lent.f.to_be_bytes());
         self.records.extend([0; 4]);
-        for key in [master, drive] {
+        for key in [lent.master, lent.drive] {
             let mut field = key.to_vec();
             field.resize(40, 0);
             self.records.extend(field);
         }
-        let mut medium = vec![fill; size + GUARD];
-        let (row, fresh) = format(&mut medium[..size], f, master, drive);
+        let mut medium = vec![fill; lent.size + GUARD];
+        let (row, fresh) = format(&mut medium[..lent.size], lent.f, lent.master, lent.drive);
         self.tally.rows[row as usize] += (row != 0) as u64;
-        self.lines.push_str(&format!("{row} 0 - {}\n", hex(&sha256(&medium))));
+        self.line(row, 0, "-", &medium);
 
-        let Trace { records, lines, tally } = self;
-        let mut sink = |done: &Done| {
-            let call = done.call;
-            tally.count(done);
-            records.extend([b'C', call.fill, 0, 0]);
-            records.extend((call.lent as u32).to_be_bytes());
-            records.extend(call.clock.to_be_bytes());
-            records.extend((call.frame.len() as u32).to_be_bytes());
-            records.extend((call.space as u32).to_be_bytes());
-            records.extend([0; 8]);
-            records.extend(&call.frame);
-            let space = if done.space.is_empty() { "-".to_string() } else { hex(done.space) };
-            lines.push_str(&format!("{} {} {space} {}\n", done.row, done.length, hex(&sha256(done.medium))));
-        };
-        Traffic::new(Rng::new(rng.next()), fresh, medium, true, calls, &mut sink).with_keys(drive, master).run();
+        let mut traffic =
+            Traffic::new(Rng::new(rng.next()), fresh, medium, true, plot.calls, self).with_keys(lent.drive, lent.master);
+        if plot.objects {
+            traffic = traffic.with_objects();
+        }
+        if let Some((breach, calls)) = plot.breach {
+            traffic = traffic.broken_by(breach, calls);
+        }
+        traffic.run();
     }
 }
 
 fn size(rng: &mut Rng) -> usize {
-    let n = match rng.weighted(&[2, 4, 26, 46, 20, 2]) {
+    let n = match rng.weighted(&[2, 4, 16, 56, 20, 2]) {
         0 => 0,
         1 => 1 + rng.below(7),
         2 => 8 + rng.below(400),
@@ -114,18 +174,49 @@ fn first_version(rng: &mut Rng) -> u32 {
 
 /// A format with F = 0, a key too short or too long, or both, and some calls on the drive that it returns.
 fn refused_life(trace: &mut Trace, rng: &mut Rng, left: &mut usize) {
-    let (m, f) = (size(rng), first_version(rng));
+    let (size, f) = (size(rng), first_version(rng));
     let (master, drive) = (rng.bytes(32), rng.bytes(32));
     let wrong = rng.pick(&[0, 1, 31, 33, 40]);
     let other = rng.bytes(wrong);
     let calls = (rng.below(5) as usize).min(*left);
     *left -= calls;
-    match rng.below(4) {
-        0 => trace.life(rng, m, 0, &master, &drive, calls),
-        1 => trace.life(rng, m, f, &other, &drive, calls),
-        2 => trace.life(rng, m, f, &master, &other, calls),
-        _ => trace.life(rng, m, 0, &master, &other, calls),
-    }
+    let good = Lent { size, f, master: &master, drive: &drive };
+    let lent = match rng.below(4) {
+        0 => Lent { f: 0, ..good },
+        1 => Lent { master: &other, ..good },
+        2 => Lent { drive: &other, ..good },
+        _ => Lent { f: 0, drive: &other, ..good },
+    };
+    trace.life(rng, &lent, &plainly(calls));
+}
+
+/// A short life among objects from outside, whose last one leaves the record unsound; each clause in turn.
+fn broken_life(trace: &mut Trace, rng: &mut Rng, left: &mut usize, breaches: &mut impl Iterator<Item = Breach>) {
+    let (size, f) = (size(rng).max(4), first_version(rng));
+    let (master, drive) = (rng.bytes(32), rng.bytes(32));
+    let calls = (8 + rng.below(70) as usize).min(*left);
+    let breach = breaches.next().map(|breach| (breach, calls.min(1 + rng.below(6) as usize)));
+    *left -= calls;
+    trace.life(rng, &Lent { size, f, master: &master, drive: &drive }, &Plot { calls, objects: true, breach });
+}
+
+/// A life of up to some hundred calls, in one of three among objects from outside.
+fn whole_life(trace: &mut Trace, rng: &mut Rng, left: &mut usize) {
+    let (size, f, objects) = (size(rng), first_version(rng), rng.chance(33));
+    let (master, drive) = (rng.bytes(32), rng.bytes(32));
+    let calls = (30 + rng.below(800) as usize).min(*left);
+    *left -= calls;
+    trace.life(rng, &Lent { size, f, master: &master, drive: &drive }, &Plot { calls, objects, breach: None });
+}
+
+/// The largest medium and one byte more.
+fn big_lives(trace: &mut Trace, rng: &mut Rng) {
+    let most = MOST_MEDIUM;
+    let good = Lent { size: most, f: 1, master: &[0; 32], drive: &[1; 32] };
+    trace.life(rng, &Lent { size: most + 1, f: 0, master: &[], drive: &[] }, &plainly(2)); // rows 24, 25 and 26 at once
+    trace.life(rng, &Lent { size: most + 1, ..good }, &plainly(2));
+    trace.life(rng, &good, &plainly(10));
+    trace.life(rng, &Lent { f: 0, ..good }, &plainly(2));
 }
 
 fn main() {
@@ -135,28 +226,25 @@ fn main() {
         std::process::exit(2);
     }
     let mut rng = Rng::new(args[1].parse().expect("SEED is a number"));
-    let calls: usize = args[2].parse().expect("CALLS is a number");
+    let mut left: usize = args[2].parse().expect("CALLS is a number");
     let mut trace = Trace::default();
-
     if args.get(5).is_some_and(|a| a == "big") {
-        let most = 16_777_216;
-        trace.life(&mut rng, most + 1, 0, &[], &[], 2); // rows 24, 25 and 26 at once
-        trace.life(&mut rng, most + 1, 1, &[0; 32], &[1; 32], 2);
-        trace.life(&mut rng, most, 1, &[0; 32], &[1; 32], 10);
-        trace.life(&mut rng, most, 0, &[0; 32], &[1; 32], 2);
+        big_lives(&mut trace, &mut rng);
     }
-    let mut left = calls;
+    let mut breaches = BREACHES.into_iter().cycle();
     while left > 0 {
         for _ in 0..rng.below(4) {
             refused_life(&mut trace, &mut rng, &mut left);
         }
-        let (m, f) = (size(&mut rng), first_version(&mut rng));
-        let (master, drive) = (rng.bytes(32), rng.bytes(32));
-        let calls = (30 + rng.below(800) as usize).min(left);
-        left -= calls;
-        trace.life(&mut rng, m, f, &master, &drive, calls);
+        if left > 0 && rng.chance(70) {
+            broken_life(&mut trace, &mut rng, &mut left, &mut breaches);
+        }
+        if left > 0 {
+            whole_life(&mut trace, &mut rng, &mut left);
+        }
     }
     write(&args[3], trace.records).expect("cannot write OUT.in");
     write(&args[4], trace.lines).expect("cannot write OUT.expected");
     trace.tally.print();
+    trace.tally.print_of_a_library();
 }

@@ -1,5 +1,5 @@
 //! `streams SEED CALLS OUT.in OUT.expected`: a random stream of records for the program `gate`, and the lines it must print.
-//! Prints how often each row is in it, and how often a frame had a twin. The same seed and count give the same files.
+//! Prints how often each row is in it, and how often it has what the tests ask for. The same seed and count give the same files.
 
 use model::drive::format;
 use model::rng::Rng;

@@ -188,7 +188,7 @@ impl Traffic<'_> {
         }
     }
 
-    /// A new number and a size that fits, often exactly.
+    /// A new number and a size that fits.
     fn creation(&mut self, partition: &Partition) -> (u32, u32) {
         let mut number = 1 + self.rng.below(24) as u32;
         while partition.find(number).is_some() {
@@ -198,18 +198,34 @@ impl Traffic<'_> {
             number = u32::MAX;
         }
         let gaps = gaps(self.drive.quarter(), &areas(&partition.objects));
-        if gaps.is_empty() {
-            return (number, 1);
-        }
-        let gap = self.rng.pick(&gaps).0;
-        let size = match self.rng.weighted(&[4, 1, 8, 3, 2]) {
-            0 if gaps.len() > 1 || self.rng.chance(10) => gap,
-            1 if gaps.len() > 1 => gap - 1,
-            3 => 1 + self.rng.below((gap as u64 / 4).min(2_000) + 1) as u32,
-            4 => 1 + self.rng.below(gap as u64) as u32,
+        (number, self.fitting_size(&gaps))
+    }
+
+    /// A size that some gap fits, if any does: often all that a gap leaves, or more than that in a gap that has the bytes.
+    fn fitting_size(&mut self, gaps: &[Gap]) -> u32 {
+        let open: Vec<Gap> = gaps.iter().copied().filter(|gap| gap.fits(1)).collect();
+        let Some(most) = open.iter().map(Gap::room).max() else { return 1 };
+        let (room, length) = (self.rng.pick(&open).room(), self.rng.pick(gaps).length);
+        let one_of_many = open.len() > 1 || self.rng.chance(10);
+        let size = match self.rng.weighted(&[4, 1, 2, 3, 3, 2, 6]) {
+            0 if one_of_many => room,
+            1 if one_of_many => room - 1,
+            2 => length,
+            3 => STEP * (1 + self.rng.below(4) as u32) + self.rng.below(3) as u32 - 1,
+            4 => 1 + self.rng.below((room as u64 / 4).min(2_000) + 1) as u32,
+            5 => 1 + self.rng.below(room as u64) as u32,
             _ => 1 + self.rng.below((self.drive.quarter() as u64 / 20).min(60)) as u32,
         };
-        (number, size.clamp(1, gap))
+        size.clamp(1, most)
+    }
+
+    /// A size that no gap fits: a byte more than any leaves, as many as one has, or far too many.
+    pub(super) fn size_that_fits_nowhere(&mut self, partition: &Partition) -> u32 {
+        let quarter = self.drive.quarter();
+        let gaps = gaps(quarter, &areas(&partition.objects));
+        let most = gaps.iter().map(Gap::room).max().unwrap_or(0);
+        let longest = gaps.iter().map(|gap| gap.length).max().unwrap_or(0);
+        self.rng.pick(&[most + 1, most + 1, longest.max(most + 1), quarter + 1, u32::MAX])
     }
 
     /// The fields that every operation has, still valid, at their edges.

@@ -11,7 +11,10 @@ impl Traffic<'_> {
         if self.drive.master.is_none() {
             return self.unformatted();
         }
-        let tail = (self.total / 20).min(1_500);
+        if self.from_outside {
+            self.furnish();
+        }
+        let tail = if self.breach.is_some() { 0 } else { (self.total / 20).min(1_500) };
         self.start();
         let mut leapt = false;
         while self.left > tail {
@@ -20,26 +23,37 @@ impl Traffic<'_> {
                 let over = (1 << 63) + self.rng.below(1 << 40);
                 self.one_at(over, &[]); // past the 63 bits of a signed number
             }
-            self.taste = Taste::balanced();
-            let p = self.rng.below(4) as u8;
-            match self.rng.weighted(&[50, 6, 9, 6, 9, 9, 9, 6, 3, 6, 9]) {
-                0 => self.balanced(),
-                1 => {
-                    let place = self.rng.below(5) as u8;
-                    self.fill_memory(place)
-                }
-                2 => self.fill_partition(p),
-                3 => self.set_back(p),
-                4 => self.edges(),
-                5 => self.recreate(p),
-                6 => self.late_frames(),
-                7 => self.two_part_read(p),
-                8 => self.leap(),
-                9 => self.last_versions(p),
-                _ => self.two_heads(p),
-            }
+            self.episode();
         }
-        self.finale();
+        match self.breach {
+            Some((breach, calls)) => self.break_record(breach, calls),
+            None => self.finale(),
+        }
+    }
+
+    /// One of the stories.
+    fn episode(&mut self) {
+        self.taste = Taste::balanced();
+        let p = self.rng.below(4) as u8;
+        let (steps, outside) = (if self.library { 20 } else { 12 }, if self.from_outside { 40 } else { 0 });
+        match self.rng.weighted(&[50, 6, 12, 6, 9, 9, 9, 6, 3, 6, 9, steps, outside]) {
+            0 => self.balanced(),
+            1 => {
+                let place = self.rng.below(5) as u8;
+                self.fill_memory(place)
+            }
+            2 => self.fill_partition(p),
+            3 => self.set_back(p),
+            4 => self.edges(),
+            5 => self.recreate(p),
+            6 => self.late_frames(),
+            7 => self.two_part_read(p),
+            8 => self.leap(),
+            9 => self.last_versions(p),
+            10 => self.two_heads(p),
+            11 => self.steps(p),
+            _ => self.more_objects(p),
+        }
     }
 
     /// The drive of a refused format: no key, so a good frame is row 8.
@@ -85,7 +99,7 @@ impl Traffic<'_> {
     }
 
     /// Rows to aim at: none, one, two or three, any together.
-    fn wants(&mut self) -> Vec<u8> {
+    pub(super) fn wants(&mut self) -> Vec<u8> {
         let many = self.rng.weighted(&self.taste.spoils);
         let mut wants = vec![];
         for _ in 0..many {
@@ -270,26 +284,12 @@ impl Traffic<'_> {
         }
     }
 
-    /// 16 objects; then gaps that fit exactly, and by one not.
+    /// 16 objects; every other row against row 19; then gaps that fit exactly, and by one not.
     fn fill_partition(&mut self, p: u8) {
         self.ready(p);
         self.taste.places = vec![p];
         self.taste.ops = [2, 2, 1, 1, 30, 0, 0];
-        for _ in 0..40 {
-            let objects = self.drive.partitions[p as usize].objects.len();
-            if objects >= MOST_OBJECTS {
-                break;
-            }
-            let clock = self.tick();
-            let gaps = gaps(self.drive.quarter(), &areas(&self.drive.partitions[p as usize].objects));
-            if objects == MOST_OBJECTS - 1 && gaps.len() == 1 {
-                let number = self.new_number(p); // the last one takes all that is left
-                let d = self.plain(self.drive.mark.max(clock), CREATE, p, 0, 0, number, gaps[0].0);
-                self.plain_at(clock, &d);
-            } else {
-                self.one_at(clock, &[]);
-            }
-        }
+        self.fill_to_the_last_byte(p);
         for row in 2..=20 {
             let clock = self.tick();
             let wants = if row == 19 { vec![19] } else { vec![row, 19] };
@@ -300,23 +300,26 @@ impl Traffic<'_> {
             self.one_at(clock, &wants);
         }
         for _ in 0..4 {
-            // Some go, and new ones come into the gaps.
-            for _ in 0..1 + self.rng.below(4) {
-                let objects = self.drive.partitions[p as usize].objects.clone();
-                if !objects.is_empty() {
-                    let object = self.rng.pick(&objects).number;
-                    self.simply(DELETE, p, object, 0, 0);
+            self.let_some_go(p);
+            self.fill_at_edges(p); // new ones come into the gaps
+        }
+    }
+
+    /// Up to 16 objects, many of a size that leaves room for the others. Where one gap is left with room, the last one takes all of it.
+    fn fill_to_the_last_byte(&mut self, p: u8) {
+        for _ in 0..40 {
+            let missing = MOST_OBJECTS - self.drive.partitions[p as usize].objects.len();
+            let open = self.open_gaps(p);
+            let most = open.iter().map(Gap::room).max().unwrap_or(0);
+            let share = 1 + self.rng.below(most as u64 / missing.max(1) as u64) as u32;
+            match missing {
+                0 => return,
+                1 if open.len() == 1 => self.create(p, most),
+                _ if self.rng.chance(60) => self.create(p, share),
+                _ => {
+                    let clock = self.tick();
+                    self.one_at(clock, &[]);
                 }
-            }
-            for _ in 0..5 {
-                let gaps = gaps(self.drive.quarter(), &areas(&self.drive.partitions[p as usize].objects));
-                if gaps.is_empty() {
-                    break;
-                }
-                let gap = self.rng.pick(&gaps).0;
-                let size = self.rng.pick(&[gap, gap, gap - 1, gap + 1, gap / 2]).max(1);
-                let number = self.new_number(p);
-                self.simply(CREATE, p, 0, number, size);
             }
         }
     }
@@ -440,9 +443,8 @@ impl Traffic<'_> {
     /// "Giving a recreated object its old version", and its old bytes.
     fn recreate(&mut self, p: u8) {
         self.ready(p);
-        let free = gaps(self.drive.quarter(), &areas(&self.drive.partitions[p as usize].objects));
-        let (Some(gap), number) = (free.iter().max(), self.new_number(p)) else { return };
-        let size = 1 + self.rng.below(gap.0.min(64) as u64) as u32;
+        let (Some(room), number) = (self.open_gaps(p).iter().map(Gap::room).max(), self.new_number(p)) else { return };
+        let size = 1 + self.rng.below(room.min(64) as u64) as u32;
         self.simply(CREATE, p, 0, number, size);
         self.simply(WRITE, p, number, 0, size);
         self.simply(READ, p, number, 0, size);
@@ -543,7 +545,7 @@ impl Traffic<'_> {
     }
 
     /// The last milliseconds that 64 bits hold. From there no entry is outlived any more.
-    fn finale(&mut self) {
+    pub(super) fn finale(&mut self) {
         self.ceiling = u64::MAX;
         self.taste = Taste::balanced();
         // A library's short lives may jump to the end at once.

@@ -1,9 +1,9 @@
 //! Random calls that know the drive's state and its keys, so that they can aim at every row.
 //!
 //! A call starts as a draft that no row refuses; then it is spoiled for none, one, two or more rows, signed, and put to the model.
-//! Around that stand short stories: full memories, full partitions, keys set and set back, late frames, recreated objects, heads
-//! under one holder number, the first and the last milliseconds. Beside the drive a [`Ledger`] is kept, and every call is held to
-//! demand 3.
+//! Around that stand short stories: full memories, full partitions, gaps on and off the steps of change 3, keys set and set back, late
+//! frames, recreated objects, heads under one holder number, the first and the last milliseconds. Some lives of a library start from a
+//! record that no list of calls makes. Beside the drive a [`Ledger`] is kept, and every call is held to demand 3.
 //!
 //! An entry is a frame's *twin* when it is in the frame's memory and is its nonce in all but the object.
 
@@ -13,12 +13,19 @@ use crate::ledger::Ledger;
 use crate::records::*;
 use crate::rng::Rng;
 use drafts::Draft;
+pub use outside::{Breach, BREACHES};
+use placing::Placing;
 use std::mem::replace;
+pub use tally::Tally;
 
 mod drafts;
 mod episodes;
 mod heads;
+mod outside;
+mod placing;
 mod spoil;
+mod steps;
+mod tally;
 
 /// Bytes after the medium that a test may lend too much of, and that nobody may write.
 pub const GUARD: usize = 8;
@@ -39,6 +46,33 @@ pub struct Done<'a> {
     pub space: &'a [u8],
     pub medium: &'a [u8], // with its guard bytes
     pub twins: &'a [u32], // the objects of the frame's twins, as the memory was when the rows were judged
+    pub placing: Option<&'a Placing>,
+    pub sound: bool, // the drive record, before the call
+}
+
+/// An object that was put into the drive record from outside, behind those of its partition.
+pub struct Put<'a> {
+    pub partition: u8,
+    pub object: &'a Object,
+    pub last_given: u32,  // of the partition, from now on
+    pub medium: &'a [u8], // with its guard bytes
+}
+
+/// Who is told of every call, and of every object that comes from outside.
+pub trait Sink {
+    fn call(&mut self, done: &Done);
+    fn object(&mut self, put: &Put);
+}
+
+/// Enough for traffic in which no object comes from outside.
+impl<F: FnMut(&Done)> Sink for F {
+    fn call(&mut self, done: &Done) {
+        self(done)
+    }
+
+    fn object(&mut self, _: &Put) {
+        unreachable!("nobody is told of this object")
+    }
 }
 
 #[derive(Clone, Copy)]
@@ -79,8 +113,10 @@ pub struct Traffic<'a> {
     held: Vec<Vec<u8>>,         // built, to be sent later
     past: Vec<(u8, u32, u32)>,  // partition, object and a version that it had
     old_keys: Vec<Key>,
-    lent_keys: [Key; 2], // drive and master key as a refused format was lent them
-    sink: &'a mut dyn FnMut(&Done),
+    lent_keys: [Key; 2],             // drive and master key as a refused format was lent them
+    from_outside: bool,              // objects come from outside too
+    breach: Option<(Breach, usize)>, // what makes the record unsound in the end, and how many calls find it so
+    sink: &'a mut dyn Sink,
 }
 
 impl<'a> Traffic<'a> {
@@ -91,7 +127,7 @@ impl<'a> Traffic<'a> {
         medium: Vec<u8>,
         library: bool,
         calls: usize,
-        sink: &'a mut dyn FnMut(&Done),
+        sink: &'a mut dyn Sink,
     ) -> Traffic<'a> {
         let ledger = match (drive.master, drive.drive) {
             (Some(m), Some(d)) => Some(Ledger::new(drive.size, drive.partitions[0].version, m, d)),
@@ -114,6 +150,8 @@ impl<'a> Traffic<'a> {
             past: vec![],
             old_keys: vec![[0; 32], [1; 32]],
             lent_keys: [[0; 32]; 2],
+            from_outside: false,
+            breach: None,
             sink,
         }
     }
@@ -141,8 +179,7 @@ impl<'a> Traffic<'a> {
         let (rows, length) =
             gate_with_rows(&mut self.drive, &mut self.medium[..lent], &call.frame, clock, &mut reply);
         let row = rows.first().copied().unwrap_or(0);
-        let twins = twins(&self.drive, &call.frame);
-        (self.sink)(&Done { call: &call, rows: &rows, row, length, space: &reply, medium: &self.medium, twins: &twins });
+        self.tell(&call, &before, &rows, length, &reply);
         if row == 1 {
             assert_eq!(self.drive, before);
         } else if let Some(ledger) = &mut self.ledger {
@@ -153,6 +190,34 @@ impl<'a> Traffic<'a> {
             self.remember(&before, call.frame);
         }
         row
+    }
+
+    /// Tells the sink of a call to this drive.
+    fn tell(&mut self, call: &Call, before: &Drive, rows: &[u8], length: usize, space: &[u8]) {
+        let row = rows.first().copied().unwrap_or(0);
+        let twins = twins(&self.drive, &call.frame);
+        let placing = Placing::of(before, &call.frame, row);
+        self.sink.call(&Done {
+            call,
+            rows,
+            row,
+            length,
+            space,
+            medium: &self.medium,
+            twins: &twins,
+            placing: placing.as_ref(),
+            sound: before.sound(),
+        });
+    }
+
+    /// The gaps of a partition.
+    fn gaps(&self, p: u8) -> Vec<Gap> {
+        gaps(self.drive.quarter(), &areas(&self.drive.partitions[p as usize].objects))
+    }
+
+    /// Those in which something fits.
+    fn open_gaps(&self, p: u8) -> Vec<Gap> {
+        self.gaps(p).into_iter().filter(|gap| gap.fits(1)).collect()
     }
 
     /// Keeps what later calls may try again: frames, versions and keys gone by.
@@ -316,62 +381,10 @@ fn twins(drive: &Drive, frame: &[u8]) -> Vec<u32> {
     alike.map(|e| e.object).filter(|o| *o != nonce.object).collect()
 }
 
-/// How often each row was the answer, how often another row applied beside it, and how often the frame had a twin.
-pub struct Tally {
-    pub rows: [u64; 31],
-    pub pairs: [[u64; 31]; 31],
-    pub beside_a_twin: [u64; 3],
-}
-
-/// What [`Tally::beside_a_twin`] counts.
-const BESIDE_A_TWIN: [&str; 3] =
-    ["grants beside a twin", "grants beside a twin, one of the two for the partition", "repeats beside a twin"];
-
-impl Default for Tally {
-    fn default() -> Tally {
-        Tally { rows: [0; 31], pairs: [[0; 31]; 31], beside_a_twin: [0; 3] }
-    }
-}
-
-impl Tally {
-    pub fn count(&mut self, done: &Done) {
-        self.rows[done.row as usize] += 1;
-        for beside in done.rows.iter().skip(1) {
-            self.pairs[done.row as usize][*beside as usize] += 1;
-        }
-        if !done.twins.is_empty() {
-            let of_the_partition = done.twins.contains(&0) || nonce_of(&done.call.frame).object == 0;
-            self.beside_a_twin[0] += (done.row == 0) as u64;
-            self.beside_a_twin[1] += (done.row == 0 && of_the_partition) as u64;
-            self.beside_a_twin[2] += (done.row == 12) as u64;
-        }
-    }
-
-    /// "row R: N" lines, how often there was a twin, and beside which other rows each row was the answer, so that the lowest had to
-    /// win.
-    pub fn print(&self) {
-        for (row, n) in self.rows.iter().enumerate() {
-            if *n > 0 {
-                println!("row {row}: {n}");
-            }
-        }
-        for (what, n) in BESIDE_A_TWIN.iter().zip(self.beside_a_twin) {
-            println!("{what}: {n}");
-        }
-        let met = self.pairs.iter().flatten().filter(|n| **n > 0).count();
-        println!("pairs of an answer and another row that applied: {met}");
-        for (first, line) in self.pairs.iter().enumerate() {
-            let with: Vec<String> =
-                line.iter().enumerate().filter(|(_, n)| **n > 0).map(|(second, n)| format!("{second}:{n}")).collect();
-            if !with.is_empty() {
-                println!("  {first} beside {}", with.join(" "));
-            }
-        }
-    }
-}
-
 #[cfg(test)]
 mod tests {
+    use super::placing::STEPS;
+    use super::tally::BESIDE_A_TWIN;
     use super::*;
 
     /// A run in which every row that a program meets is met, each call held to demand 3 by the ledger.
@@ -386,6 +399,8 @@ mod tests {
             assert!(tally.rows[row] > 0, "row {row} is not met");
         }
         assert!(tally.beside_a_twin.iter().all(|n| *n > 0), "{BESIDE_A_TWIN:?}: {:?}", tally.beside_a_twin);
+        assert!(tally.steps.iter().all(|n| *n > 0), "{STEPS:?}: {:?}", tally.steps);
+        assert_eq!((tally.steps_of_a_library, tally.unsound), ([0, 0], 0));
         assert_eq!(tally.rows.iter().sum::<u64>(), 8_000);
     }
 

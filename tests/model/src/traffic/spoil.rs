@@ -2,7 +2,6 @@
 
 use super::drafts::{Draft, Sign};
 use super::Traffic;
-use crate::drive::*;
 use crate::records::*;
 
 impl Traffic<'_> {
@@ -223,10 +222,8 @@ impl Traffic<'_> {
                 }
             }
             20 => {
-                let quarter = self.drive.quarter();
-                let largest = gaps(quarter, &areas(&partition.objects)).iter().max().map_or(0, |g| g.0);
                 if op == CREATE {
-                    d.r.b = self.rng.pick(&[largest + 1, largest + 1, quarter + 1, u32::MAX]);
+                    d.r.b = self.size_that_fits_nowhere(&partition);
                 }
             }
             _ => {} // 19, 21, 22: by the state; 23: by the space

@@ -1,0 +1,90 @@
+//! What random calls met, counted.
+
+use super::placing::{STEPS, STEPS_OF_A_LIBRARY};
+use super::{nonce_of, Done};
+
+/// How often each row was the answer, how often another row applied beside it, how often the frame had a twin, and what creates met of
+/// change 3.
+pub struct Tally {
+    pub rows: [u64; 31],
+    pub pairs: [[u64; 31]; 31],
+    pub beside_a_twin: [u64; BESIDE_A_TWIN.len()],
+    pub steps: [u64; STEPS.len()],
+    pub steps_of_a_library: [u64; STEPS_OF_A_LIBRARY.len()],
+    pub unsound: u64,
+}
+
+/// What [`Tally::beside_a_twin`] counts.
+pub(super) const BESIDE_A_TWIN: [&str; 3] =
+    ["grants beside a twin", "grants beside a twin, one of the two for the partition", "repeats beside a twin"];
+
+/// What [`Tally::unsound`] counts.
+const UNSOUND: &str = "calls answered row 1 by an unsound record";
+
+impl Default for Tally {
+    fn default() -> Tally {
+        Tally {
+            rows: [0; 31],
+            pairs: [[0; 31]; 31],
+            beside_a_twin: [0; BESIDE_A_TWIN.len()],
+            steps: [0; STEPS.len()],
+            steps_of_a_library: [0; STEPS_OF_A_LIBRARY.len()],
+            unsound: 0,
+        }
+    }
+}
+
+fn add<const N: usize>(counts: &mut [u64; N], met: [bool; N]) {
+    for (count, met) in counts.iter_mut().zip(met) {
+        *count += met as u64;
+    }
+}
+
+fn print_met(names: &[&str], counts: &[u64]) {
+    for (what, n) in names.iter().zip(counts) {
+        println!("met {what}: {n}");
+    }
+}
+
+impl Tally {
+    pub fn count(&mut self, done: &Done) {
+        self.rows[done.row as usize] += 1;
+        for beside in done.rows.iter().skip(1) {
+            self.pairs[done.row as usize][*beside as usize] += 1;
+        }
+        if !done.twins.is_empty() {
+            let of_the_partition = done.twins.contains(&0) || nonce_of(&done.call.frame).object == 0;
+            add(&mut self.beside_a_twin, [done.row == 0, done.row == 0 && of_the_partition, done.row == 12]);
+        }
+        if let Some(placing) = done.placing {
+            add(&mut self.steps, placing.met());
+            add(&mut self.steps_of_a_library, placing.met_in_a_library());
+        }
+        self.unsound += (done.row == 1 && !done.sound) as u64;
+    }
+
+    /// Lines `row R: N`; then lines `met WHAT: N` of what the differential tests ask for (`tests/model/met`); then beside which other
+    /// rows each row was the answer, so that the lowest had to win.
+    pub fn print(&self) {
+        for (row, n) in self.rows.iter().enumerate().filter(|(_, n)| **n > 0) {
+            println!("row {row}: {n}");
+        }
+        print_met(&BESIDE_A_TWIN, &self.beside_a_twin);
+        print_met(&STEPS, &self.steps);
+        let met = self.pairs.iter().flatten().filter(|n| **n > 0).count();
+        println!("pairs of an answer and another row that applied: {met}");
+        for (first, line) in self.pairs.iter().enumerate() {
+            let with: Vec<String> =
+                line.iter().enumerate().filter(|(_, n)| **n > 0).map(|(second, n)| format!("{second}:{n}")).collect();
+            if !with.is_empty() {
+                println!("  {first} beside {}", with.join(" "));
+            }
+        }
+    }
+
+    /// What a library meets besides, in such lines.
+    pub fn print_of_a_library(&self) {
+        print_met(&STEPS_OF_A_LIBRARY, &self.steps_of_a_library);
+        print_met(&[UNSOUND], &[self.unsound]);
+    }
+}
