@@ -63,12 +63,12 @@ fn million() {
 }
 
 // The bytes 0, 1, 2, ..
-fn counting() -> [u8; 128]
-    ensures { λ r. ⌜ r ≡ count 128 ⌝ }
+fn counting() -> [u8; 129]
+    ensures { λ r. ⌜ r ≡ count 129 ⌝ }
 {
-    let mut b = [0u8; 128];
+    let mut b = [0u8; 129];
     let mut i: usize = 0;
-    while i < 128 {
+    while i < 129 {
         b[i] = i as u8;
         i += 1;
     }
@@ -101,24 +101,43 @@ fn published() {
 
 // The digest of the bytes 0, 1, .. n - 1.
 fn edge(label: &[u8], n: usize)
-    requires { ⌜ n ≤ 128 ⌝ }
+    requires { ⌜ n ≤ 129 ⌝ }
 {
     let b = counting();
     sha(label, &b[0..n]);
 }
 
-// Messages that end at the edges of one block and of two. These digests are OpenSSL's.
-fn edges() {
+// Messages around the end of one block: where the length field still fits, where another block follows, and behind it. These
+// digests, and those around the end of two, are OpenSSL's.
+fn one_block() {
+    edge(b"sha256 0..54", 54);
     edge(b"sha256 0..55", 55);
     edge(b"sha256 0..56", 56);
     edge(b"sha256 0..57", 57);
+    edge(b"sha256 0..58", 58);
+    edge(b"sha256 0..59", 59);
+    edge(b"sha256 0..60", 60);
+    edge(b"sha256 0..61", 61);
+    edge(b"sha256 0..62", 62);
     edge(b"sha256 0..63", 63);
     edge(b"sha256 0..64", 64);
     edge(b"sha256 0..65", 65);
+}
+
+// The same around the end of two blocks.
+fn two_blocks() {
+    edge(b"sha256 0..118", 118);
     edge(b"sha256 0..119", 119);
     edge(b"sha256 0..120", 120);
+    edge(b"sha256 0..121", 121);
+    edge(b"sha256 0..122", 122);
+    edge(b"sha256 0..123", 123);
+    edge(b"sha256 0..124", 124);
+    edge(b"sha256 0..125", 125);
+    edge(b"sha256 0..126", 126);
     edge(b"sha256 0..127", 127);
     edge(b"sha256 0..128", 128);
+    edge(b"sha256 0..129", 129);
 }
 
 // RFC 4231, section 4. The RFC shows the first 128 bits of case 5 only; here the whole is printed.
@@ -143,6 +162,7 @@ fn rfc4231() {
 
 fn main() {
     published();
-    edges();
+    one_block();
+    two_blocks();
     rfc4231();
 }

@@ -1,13 +1,13 @@
--- Runs of one value and stores one after the other: a list filled from a place on, and what stands in it then.
+-- Runs of one value, and stores one after the other: what stands in a list then.
 use mathlib.Core.Path.{_≡_, refl, sym, ap, _∙_}
-use mathlib.Core.List.{List, [], _∷_, _++_, append-assoc, append-nil}
-use Prim.Native.Nat.{ℕ, zero, suc, _+_, _-_, _≤_, _<_}
+use mathlib.Core.List.{List, [], _∷_, _++_, append-nil}
+use Prim.Native.Nat.{ℕ, zero, suc, _+_, _-_, _≤_}
 use native.Mathlib.Nat.{zero-add}
 use native.Mathlib.Numerals.{add-one}
 use native.Mathlib.Omega.{arith}
 use lib.ListN.{length, getD, length-append, take, drop, set, replicate, length-replicate, replicate-append-replicate}
 use lib.ListN.{drop-of-length-le}
-use lib.Seq.{take-suc-set, take-set-le, take-at, drop-at, length-take-le, sets, sets-eq}
+use lib.Seq.{take-at, drop-at, length-take-le, sets, sets-eq}
 use Rattle.lemmas.specs.Lists.{splice}
 
 -- each place of a run, and each past its end where its value stands for those
@@ -16,31 +16,12 @@ replicate-at zero k v = refl
 replicate-at (suc n) zero v = refl
 replicate-at (suc n) (suc k) v = replicate-at n k v
 
--- a run that is longer by one
-pub replicate-more : (n v : ℕ) → replicate (n + 1) v ≡ replicate n v ++ v ∷ []
-replicate-more n v = sym (replicate-append-replicate n 1 v)
-
 -- a run without its first n
 pub drop-replicate : (n m v : ℕ) → n ≤ m → drop n (replicate m v) ≡ replicate (m - n) v
 drop-replicate n m v h =
     let e : m ≡ n + (m - n) = omega arith in
     ap (λ k. drop n (replicate k v)) e ∙ ap (drop n) (sym (replicate-append-replicate n (m - n) v))
     ∙ drop-at (replicate n v) (replicate (m - n) v) n (length-replicate n v)
-
--- a store at i where d and a run of v from b on stand before it: the run is longer by one
-pub fill-step : (p d : List ℕ) (b i v : ℕ) → b ≤ i → i < length p → take i p ≡ d ++ replicate (i - b) v
-    → take (i + 1) (set p i v) ≡ d ++ replicate (i + 1 - b) v
-fill-step p d b i v h hp e =
-    let n : i + 1 - b ≡ (i - b) + 1 = omega arith in
-    rw (n, replicate-more, add-one i, take-suc-set p i v hp, e, append-assoc)
-
--- a store at u, and behind it a run of none
-pub fill-none : (p : List ℕ) (u v w : ℕ) → u < length p
-    → take (u + 1) (set p u v) ≡ take u (set p u v) ++ v ∷ [] ++ replicate (u + 1 - (u + 1)) w
-fill-none p u v w h =
-    let z : u + 1 - (u + 1) ≡ 0 = omega arith in
-    let s : take u (set p u v) ≡ take u p = take-set-le u p u v (omega arith) in
-    rw (z, append-nil (take u (set p u v) ++ v ∷ []), add-one u, take-suc-set p u v h, s)
 
 -- stores from i on up to the end of the list
 pub sets-end : (vs p : List ℕ) (i : ℕ) → length p ≡ i + length vs → sets p i vs ≡ take i p ++ vs

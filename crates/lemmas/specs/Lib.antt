@@ -5,6 +5,8 @@ pub mod ListLaws
 pub mod Parts
 pub mod RowTable
 pub mod BigEndian
+pub mod Binary
+pub mod BinaryLaws
 pub mod Fill
 pub mod Bits
 pub mod Layout

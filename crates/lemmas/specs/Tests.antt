@@ -1,10 +1,12 @@
--- Tests on numbers, worded as rules word them, and what a test that passed or failed tells.
-use mathlib.Core.Path.{_≡_, refl}
+-- Tests on numbers, worded as rules word them, and what a test that passed or failed tells; the first number that passes one.
+use mathlib.Core.Path.{_≡_, refl, sym, ap, _∙_}
 use mathlib.Core.Logic.{_⊎_, inl, inr}
 use mathlib.Core.Bool.{Bool, true, false, not, _&&_, _||_, cond, true≢false, false≢true}
 use mathlib.Core.List.{List, [], _∷_}
-use Prim.Native.Nat.{ℕ, zero, suc}
+use Prim.Native.Nat.{ℕ, zero, suc, _+_, _≤_, _<_}
+use native.Mathlib.Decide.{decLt}
 use native.Mathlib.Omega.{arith}
+use lib.Arith.{lt-of-le-ne}
 use lib.Dec.{ltb, eqb}
 use lib.ListN.{getD}
 use borrow.Author.Tests.{ltb-true, ltb-false, leb-true, leb-false, eqb-true, eqb-false}
@@ -104,3 +106,38 @@ none-of (t ∷ ts) h k = at k (none-from t ts h .0) (none-from t ts h .1)
     at : (k : ℕ) → t ≡ false → ((k : ℕ) → getD ts k false ≡ false) → getD (t ∷ ts) k false ≡ false
     at zero e f = e
     at (suc k) e f = f k
+
+-- ---- the first number that passes a test
+
+-- of the n numbers from i on; or the number behind them, if none passes
+unfoldable pub firstFrom : ℕ → ℕ → (ℕ → Bool) → ℕ
+firstFrom i zero t = i
+firstFrom i (suc n) t = cond (t i) i (firstFrom (suc i) n t)
+
+-- it passes, and is not behind any number of them that does
+pub first-passes : (i n : ℕ) (t : ℕ → Bool) (k : ℕ) → i ≤ k → k < i + n → t k ≡ true
+    → (t (firstFrom i n t) ≡ true) × (firstFrom i n t ≤ k)
+unfolding firstFrom
+first-passes i zero t k h l e = absurd (omega arith)
+first-passes i (suc n) t k h l e =
+    elim (bool-cases (t i)) [
+      | inl y ↦ rw y (y, h)
+      | inr y ↦
+          let d : k ≡ i → ⊥ = λ q. false≢true (sym y ∙ ap t (sym q) ∙ e) in
+          rw y (first-passes (suc i) n t k (lt-of-le-ne h (λ q. d (sym q))) (omega arith) e)
+    ]
+
+-- none before it passes
+pub none-before : (i n : ℕ) (t : ℕ → Bool) (j : ℕ) → i ≤ j → j < firstFrom i n t → t j ≡ false
+unfolding firstFrom
+none-before i zero t j h l = absurd (omega arith)
+none-before i (suc n) t j h l =
+    elim (bool-cases (t i)) [
+      | inl y ↦ let m : j < i = rw y at l in absurd (omega arith)
+      | inr y ↦
+          let m : j < firstFrom (suc i) n t = rw y at l in
+          elim (decLt i j) [
+            | yes q ↦ none-before (suc i) n t j q m
+            | no q ↦ let same : j ≡ i = omega arith in ap t same ∙ y
+          ]
+    ]

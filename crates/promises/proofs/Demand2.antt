@@ -7,6 +7,7 @@ use native.Mathlib.Omega.{arith}
 use lib.ListN.{length, take}
 use denote.Ref.{now, ptr}
 use Rattle.lemmas.specs.RowTable.{firstRow, line}
+use Rattle.sha256_block.specs.PaddingLaws.{padded-message}
 use Rattle.rules.specs.Client.{build, check, Checked, frameOf, issue}
 use Rattle.rules.specs.Demands as rules·demands
 use Rattle.rules.specs.Drive.{refresh}
@@ -130,6 +131,7 @@ demand2 = record {
   issue = λ i m j. record { row = m .row j; key = m .key j; space = m .space j };
   build = λ b m j. record { row = m .row j; length = m .length j; space = m .space j };
   check = λ k m j. record { row = m .row j; start = part-start k m j; length = m .length j; result = m .result j };
+  padding = padded-message;
   part = λ k m. m .start ∙ ap (placeAfter (k .reply)) (sym (part-start k m));
   granted = λ s c m.
       let e = rules·proofs.demand2 .exact (view (s .drive)) (s .medium) (c .call) .grants in

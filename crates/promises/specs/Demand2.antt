@@ -9,6 +9,7 @@ use Prim.Native.Nat.{ℕ}
 use lib.ListN.{length}
 use denote.Ref.{now, ptr}
 use Rattle.lemmas.specs.RowTable.{clear, firstRow, line}
+use Rattle.sha256_block.specs.Padding.{PaddedMessage}
 use Rattle.digest.specs.Hmac.{hmac}
 use Rattle.rules.specs.declared.Object.{Object}
 use Rattle.rules.specs.Client as rules
@@ -123,6 +124,8 @@ pub record AllOfDemand2 : Type 0 where
       → buildGave b ≡ rules.build (b .credential) (b .request) (b .payload) (b .key) (b .space)
   pub check : (k : CheckMade) → CheckKept k
       → checkGave k ≡ rules.check (k .credential) (k .request) (k .key) (now (k .reply))
+  -- the padding under each of their digests is FIPS 180-4's own, in its words and by the two cases of document 02, change 4
+  pub padding : (m : List ℕ) → PaddedMessage m
   -- "The reply check returns the result as a part of the reply itself": in the same block, so far behind its start
   pub part : (k : CheckMade) → CheckKept k → ptr (k .part) ≡ placeAfter (k .reply) (checkGave k .start)
   -- a grant exactly where no row applies

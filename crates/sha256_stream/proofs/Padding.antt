@@ -1,38 +1,22 @@
--- The end of a message: the padding by cases is FIPS's, so the digest is what Stream says.
+-- The end of a message: its last block by the padding's two cases, and the digest's bytes.
 use mathlib.Core.Path.{_≡_, refl, sym, ap, _∙_}
-use mathlib.Core.List.{List, [], _∷_, _++_, append-assoc}
-use Prim.Native.Nat.{ℕ, _+_, _-_, _*_, _/_, _%_, _^_, _≤_, _<_}
+use mathlib.Core.List.{List, [], _∷_, _++_}
+use Prim.Native.Nat.{ℕ, _+_, _*_, _/_, _%_, _^_, _≤_, _<_}
 use native.Mathlib.Numerals.{add-one}
 use native.Mathlib.Omega.{arith}
-use lib.ListN.{length, getD, set, take, drop, replicate, length-append, length-replicate, replicate-append-replicate}
-use lib.Seq.{take-suc, take-at, drop-at}
+use lib.ListN.{length, getD, set, take, replicate, length-append}
+use lib.Seq.{take-suc, take-all, take-at, drop-at}
 use Rattle.lemmas.specs.BigEndian.{bigEndian, digit, length-bigEndian}
 use Rattle.lemmas.specs.Fill.{sets-four}
 use Rattle.sha256_block.specs.declared.State.{State}
 use Rattle.sha256_stream.specs.declared.Hash.{Hash}
-use Rattle.sha256_block.specs.Sha256.{compress, blocks, padding, bytes}
-use Rattle.sha256_stream.specs.Stream.{finished}
-use Rattle.sha256_stream.specs.AbsorbedLaws.{count-mod}
+use Rattle.sha256_block.specs.Sha256.{compress, blocks, bytes}
+use Rattle.sha256_block.specs.PaddingCases.{zeroFilled, lastBlocks}
+use Rattle.sha256_block.specs.PaddingCasesLaws.{filled-none, take-filled, length-filled, in-one, in-two, same-blocks}
+use Rattle.sha256_block.specs.PaddingLaws.{last-by-cases}
+use Rattle.sha256_stream.specs.Stream.{workedIn, finished}
+use Rattle.sha256_stream.specs.AbsorbedLaws.{same-field}
 use Rattle.sha256_stream.proofs.Absorbing.{length-begun}
-
--- ---- the padding, by cases
-
--- after a last block of up to 55 bytes the length fits
-pub padding-short : (n : ℕ) → n % 64 < 56 → padding n ≡ 128 ∷ replicate (55 - n % 64) 0 ++ bigEndian 8 (8 * n)
-unfolding padding
-padding-short n h =
-    let e : (119 - n % 64) % 64 ≡ 55 - n % 64 = omega arith in
-    rw e
-
--- after one of 56 to 63 bytes another block follows
-pub padding-long : (n : ℕ) → 56 ≤ n % 64
-    → padding n ≡ 128 ∷ replicate (63 - n % 64) 0 ++ (replicate 56 0 ++ bigEndian 8 (8 * n))
-unfolding padding
-padding-long n h =
-    let e : (119 - n % 64) % 64 ≡ (63 - n % 64) + 56 = omega arith in
-    ap (λ (z : List ℕ). 128 ∷ z ++ bigEndian 8 (8 * n))
-    (ap (λ (k : ℕ). replicate k 0) e ∙ sym (replicate-append-replicate (63 - n % 64) 56 0))
-    ∙ append-assoc (128 ∷ replicate (63 - n % 64) 0) (replicate 56 0) (bigEndian 8 (8 * n))
 
 -- ---- the bytes of the words
 
@@ -70,57 +54,54 @@ joined-step out w i hw ho e =
 
 -- ---- the end
 
-module _ (h : Hash) (hl : length (h .pending) ≡ 64) where
-  abbrev u : ℕ
-  u = h .total % 64
+-- one block worked in, and two
+worked-one : (s : State) (p : List ℕ) → length p ≡ 64 → workedIn s p ≡ compress s p
+unfolding blocks
+worked-one s p e =
+    let n : length p / 64 ≡ 1 = omega arith in
+    rw n (ap (compress s) (take-all 64 p (omega arith)))
 
-  abbrev x : List ℕ
-  x = take u (h .pending)
+worked-two : (s : State) (p q : List ℕ) → length p ≡ 64 → length q ≡ 64 → workedIn s (p ++ q) ≡ compress (compress s p) q
+unfolding blocks
+worked-two s p q e f =
+    let n : length (p ++ q) / 64 ≡ 2 = omega (arith, length-append p q) in
+    rw (n, take-at p q 64 e, drop-at p q 64 e, take-all 64 q (omega arith))
 
-  -- k blocks more
-  finished-in : (k : ℕ) → length (padding (h .total)) ≡ k * 64 - u → u ≤ k * 64
-      → finished h ≡ bytes (blocks k (h .chain) (x ++ padding (h .total)))
+-- a block of zeros, up to the length field
+zeros-filled : take 56 (replicate 64 0) ≡ zeroFilled 56 []
+zeros-filled = ap (take 56) (sym (filled-none 64)) ∙ take-filled 56 64 [] (omega arith)
+
+module _ (h : Hash) (hl : length (h .pending) ≡ 64) (b : ℕ) (eb : b ≡ h .total * 8 % 2 ^ 64) where
+  abbrev r : List ℕ
+  r = take (h .total % 64) (h .pending)
+
+  length-r : length r ≡ h .total % 64
+  length-r = length-begun h hl
+
+  -- the last blocks l, with b as the length
+  finished-in : (l : List ℕ) → lastBlocks r b ≡ l → bytes (workedIn (h .chain) l) ≡ finished h
   unfolding finished
-  finished-in k e s =
-      let n : length (x ++ padding (h .total)) / 64 ≡ k = omega (arith, length-append x (padding (h .total)), length-begun h hl, e) in
-      ap (λ (j : ℕ). bytes (blocks j (h .chain) (x ++ padding (h .total)))) n
+  finished-in l e =
+      ap (λ (k : List ℕ). bytes (workedIn (h .chain) k))
+      (sym (last-by-cases r (h .total) length-r ∙ same-blocks r (8 * h .total) b (same-field (8 * h .total) b (omega arith)) ∙ e))
 
-  bits-is : (b : ℕ) → b ≡ h .total * 8 % 2 ^ 64 → bigEndian 8 b ≡ bigEndian 8 (8 * h .total)
-  bits-is b e =
-      let f : b ≡ 8 * h .total % 2 ^ 64 = omega arith in
-      ap (bigEndian 8) f ∙ count-mod (8 * h .total)
+  -- 0 to 55 bytes: one block more
+  pub finish-one : (only : List ℕ) → h .total % 64 ≤ 55 → take 56 only ≡ zeroFilled 56 (r ++ 0x80 ∷ [])
+      → bytes (compress (h .chain) (take 56 only ++ bigEndian 8 b)) ≡ finished h
+  finish-one only s e =
+      let q : List ℕ = take 56 only ++ bigEndian 8 b in
+      let lq : length q ≡ 64 = rw e (simp (length-append, length-filled, length-bigEndian)) in
+      ap bytes (sym (worked-one (h .chain) q lq))
+      ∙ finished-in q (in-one r b (omega (arith, length-r)) ∙ ap (λ (k : List ℕ). k ++ bigEndian 8 b) (sym e))
 
-  -- one block more
-  pub finish-short : (b : ℕ) (only : List ℕ) → u < 56 → b ≡ h .total * 8 % 2 ^ 64
-      → only ≡ (x ++ 128 ∷ replicate (56 - (u + 1)) 0) ++ bigEndian 8 b
-      → bytes (compress (h .chain) (take 64 only)) ≡ finished h
-  unfolding blocks
-  finish-short b only s eb eo =
-      let c : 56 - (u + 1) ≡ 55 - u = omega arith in
-      let l : length (padding (h .total)) ≡ 1 * 64 - u =
-      ap length (padding-short (h .total) s)
-      ∙ simp (length-append, length-replicate, length-bigEndian) (omega arith) in
-      let o : only ≡ x ++ padding (h .total) =
-      eo ∙ append-assoc x (128 ∷ replicate (56 - (u + 1)) 0) (bigEndian 8 b)
-      ∙ rw (c, bits-is b eb, padding-short (h .total) s) in
-      ap (λ k. bytes (compress (h .chain) (take 64 k))) o ∙ sym (finished-in 1 l (omega arith))
-
-  -- two blocks more
-  pub finish-long : (b : ℕ) (full last : List ℕ) → 56 ≤ u → b ≡ h .total * 8 % 2 ^ 64
-      → take 64 full ≡ x ++ 128 ∷ replicate (64 - (u + 1)) 0
-      → last ≡ replicate 56 0 ++ bigEndian 8 b
-      → bytes (compress (compress (h .chain) (take 64 full)) (take 64 last)) ≡ finished h
-  unfolding blocks
-  finish-long b full last s eb ef el =
-      let y : List ℕ = x ++ 128 ∷ replicate (64 - (u + 1)) 0 in
-      let z : List ℕ = replicate 56 0 ++ bigEndian 8 (8 * h .total) in
-      let c : 64 - (u + 1) ≡ 63 - u = omega arith in
-      let l : length (padding (h .total)) ≡ 2 * 64 - u =
-      ap length (padding-long (h .total) s)
-      ∙ simp (length-append, length-replicate, length-bigEndian) (omega arith) in
-      let g : x ++ padding (h .total) ≡ y ++ z =
-      rw (padding-long (h .total) s, c, append-assoc x (128 ∷ replicate (63 - u) 0) z) in
-      let ly : length y ≡ 64 = simp (length-append, length-replicate, length-begun h hl) (omega arith) in
-      let e₁ : take 64 full ≡ take 64 (x ++ padding (h .total)) = ef ∙ sym (ap (take 64) g ∙ take-at y z 64 ly) in
-      let e₂ : last ≡ drop 64 (x ++ padding (h .total)) = el ∙ rw (bits-is b eb, g, drop-at y z 64 ly) in
-      rw (e₁, e₂, finished-in 2 l (omega arith))
+  -- 56 to 63 bytes: two blocks more
+  pub finish-two : (full : List ℕ) → 55 < h .total % 64 → take 64 full ≡ zeroFilled 64 (r ++ 0x80 ∷ [])
+      → bytes (compress (compress (h .chain) (take 64 full)) (take 56 (replicate 64 0) ++ bigEndian 8 b)) ≡ finished h
+  finish-two full s e =
+      let p : List ℕ = take 64 full in
+      let q : List ℕ = take 56 (replicate 64 0) ++ bigEndian 8 b in
+      let lp : length p ≡ 64 = ap length e ∙ length-filled 64 (r ++ 0x80 ∷ []) in
+      let lq : length q ≡ 64 = simp length-bigEndian in
+      ap bytes (sym (worked-two (h .chain) p q lp lq))
+      ∙ finished-in (p ++ q)
+      (in-two r b (omega (arith, length-r)) ∙ λ i. sym e i ++ (sym zeros-filled i ++ bigEndian 8 b))

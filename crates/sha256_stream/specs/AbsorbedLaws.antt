@@ -1,15 +1,18 @@
 -- What a hash holds after a message taken part by part, and that its digest is the message's: by the law that blocks can be
 -- worked in from any of them on.
 use mathlib.Core.Path.{_≡_, refl, sym, ap, _∙_}
-use mathlib.Core.List.{List, [], _∷_, _++_}
+use mathlib.Core.List.{List, [], _++_}
 use Prim.Native.Nat.{ℕ, zero, suc, _+_, _-_, _*_, _/_, _%_, _^_, _≤_}
 use native.Mathlib.Omega.{arith}
-use lib.ListN.{length, take, drop, replicate, length-append, length-drop}
-use lib.Pow.{field, mod-mod-pow}
+use lib.ListN.{length, take, drop, length-append, length-drop}
+use lib.Pow.{mod-mod-pow}
 use lib.Seq.{drop-drop, drop-append-le, take-append-le, take-at}
 use Rattle.lemmas.specs.BigEndian.{bigEndian, digit}
+use Rattle.lemmas.specs.BinaryLaws.{bits-mod}
 use Rattle.sha256_block.specs.declared.State.{State}
 use Rattle.sha256_block.specs.Sha256.{compress, blocks, padding, pad, bytes, sha256, H₀}
+use Rattle.sha256_block.specs.PaddingCasesLaws.{same-blocks}
+use Rattle.sha256_block.specs.PaddingLaws.{last-by-cases}
 use Rattle.sha256_block.proofs.Compression.{blocks-suc, blocks-add}
 use Rattle.sha256_stream.specs.declared.Hash.{Hash}
 use Rattle.sha256_stream.specs.Stream.{started, heldWith, workedIn, pendingAfter, absorbed, finished}
@@ -36,34 +39,25 @@ blocks-on : (q k : ℕ) (s : State) (m p : List ℕ) → q * 64 ≤ length m
     → blocks (q + k) s (m ++ p) ≡ blocks k (blocks q s m) (drop (q * 64) m ++ p)
 blocks-on q k s m p h = rw (blocks-add q k s (m ++ p), blocks-append q s m p h, drop-append-le (q * 64) m p h)
 
--- ---- the padding of a count modulo 2 ^ 64
+-- ---- a count modulo 2 ^ 64
 
--- the digits of a number modulo 2 ^ 64
-digit-mod : (i k n : ℕ) → n % 2 ^ (i + 8 + k) / 2 ^ k % 2 ^ 8 ≡ n / 2 ^ k % 2 ^ 8
-digit-mod i k n = ap (λ z. z % 2 ^ 8) (field n (i + 8) k) ∙ mod-mod-pow (n / 2 ^ k) i 8
-
-pub count-mod : (n : ℕ) → bigEndian 8 (n % 2 ^ 64) ≡ bigEndian 8 n
+count-mod : (n : ℕ) → bigEndian 8 (n % 2 ^ 64) ≡ bigEndian 8 n
 unfolding bigEndian digit
 count-mod n =
     rw (
-      digit-mod 0 56 n,
-      digit-mod 8 48 n,
-      digit-mod 16 40 n,
-      digit-mod 24 32 n,
-      digit-mod 32 24 n,
-      digit-mod 40 16 n,
-      digit-mod 48 8 n,
+      bits-mod 8 0 56 n,
+      bits-mod 8 8 48 n,
+      bits-mod 8 16 40 n,
+      bits-mod 8 24 32 n,
+      bits-mod 8 32 24 n,
+      bits-mod 8 40 16 n,
+      bits-mod 8 48 8 n,
       mod-mod-pow n 56 8,
     )
 
-padding-mod : (t n : ℕ) → t ≡ n % 2 ^ 64 → padding t ≡ padding n
-unfolding padding
-padding-mod t n e =
-    let u : t % 64 ≡ n % 64 = omega (arith, e) in
-    let b : 8 * t % 2 ^ 64 ≡ 8 * n % 2 ^ 64 = omega (arith, e) in
-    let c : bigEndian 8 (8 * t) ≡ bigEndian 8 (8 * n) =
-    sym (count-mod (8 * t)) ∙ ap (bigEndian 8) b ∙ count-mod (8 * n) in
-    rw (u, c)
+-- lengths that are the same modulo 2 ^ 64 have the same eight bytes
+pub same-field : (l k : ℕ) → l % 2 ^ 64 ≡ k % 2 ^ 64 → bigEndian 8 l ≡ bigEndian 8 k
+same-field l k e = sym (count-mod l) ∙ ap (bigEndian 8) e ∙ count-mod k
 
 -- ---- the laws
 
@@ -118,12 +112,20 @@ module _ (h : Hash) (m : List ℕ) (a : Absorbed h m) where
             ∙ f;
       }
 
+  -- the count's padding is the length's: after the same last block come the same blocks
+  same-padding : heldWith h (padding (h .total)) ≡ heldWith h (padding (length m))
+  same-padding =
+      let r : List ℕ = drop (length m / 64 * 64) m in
+      let n : length r ≡ length m % 64 = length-drop (length m / 64 * 64) m ∙ omega arith in
+      held-is (padding (h .total)) ∙ last-by-cases r (h .total) (omega (arith, n, a .total))
+      ∙ same-blocks r (8 * h .total) (8 * length m) (same-field (8 * h .total) (8 * length m) (omega (arith, a .total)))
+      ∙ sym (held-is (padding (length m)) ∙ last-by-cases r (length m) n)
+
   -- the digest of the bytes taken
   pub finished-absorbed : finished h ≡ sha256 m
   unfolding finished sha256 pad
   finished-absorbed =
-      ap (λ (p : List ℕ). bytes (workedIn (h .chain) (heldWith h p))) (padding-mod (h .total) (length m) (a .total))
-      ∙ ap bytes (worked-on (padding (length m)))
+      ap (λ (l : List ℕ). bytes (workedIn (h .chain) l)) same-padding ∙ ap bytes (worked-on (padding (length m)))
 
 -- a digest has 32 bytes, whatever the hash holds
 pub length-finished : (h : Hash) → length (finished h) ≡ 32

@@ -1,17 +1,24 @@
 // SHA-256 (FIPS 180-4) of a message taken part by part, of any length: the words so far, the bytes of the block that is not full yet, and the
 // count of all bytes. Whole blocks are read straight from the part lent; only the ends of parts are copied.
 ghost use mathlib.Core.Path.{_≡_};
-ghost use mathlib.Core.List.{_∷_, _++_};
-ghost use Prim.Native.Nat.{_+_, _-_, _<_, _≤_};
-ghost use lib.ListN.{length, drop, take, replicate};
+ghost use mathlib.Core.List.{[], _∷_, _++_};
+ghost use Prim.Native.Nat.{_+_, _<_, _≤_};
+ghost use lib.ListN.{length, drop, take};
 ghost use lib.Seq.{paste};
 ghost use Rattle.lemmas.specs.BigEndian.{bigEndian};
+ghost use Rattle.sha256_block.specs.Sha256 as Fips;
 ghost use Rattle.sha256_block.specs.Sha256.{bytes, sha256};
+ghost use Rattle.sha256_block.specs.PaddingCases.{zeroFilled};
 ghost use Rattle.sha256_stream.specs.Stream.{started, absorbed, finished};
 use sha256_block::State;
 use sha256_block::blocks;
 use sha256_block::compress;
 use std::num::wrapping_add_u64;
+
+// Where the length field starts in its block, and the most bytes that a last block can have for it to fit (FIPS 180-4, 5.1.1).
+const LENGTH_AT: usize = 56;
+
+const MOST_WITH_LENGTH: usize = 55;
 
 // Plain data. `total` counts the bytes, modulo 2^64; the last total % 64 of them stand at the start of `pending`.
 pub struct Hash {
@@ -52,13 +59,13 @@ fn stashed(pending: [u8; 64], used: usize, s: &[u8], at: usize, count: usize) ->
     p
 }
 
-// `pending` with the byte 128 after its first `used`, and zeros from there up to `end`.
+// `pending` with the byte 80 behind its first `used`, and zeros behind that up to `end`.
 fn marked(pending: [u8; 64], used: usize, end: usize) -> [u8; 64]
-    requires { ⌜ (used < end) × (end ≤ 64) ⌝ }
-    ensures { λ r. ⌜ take end r ≡ take used pending ++ 128 ∷ replicate (end - (used + 1)) 0 ⌝ }
+    requires { ⌜ (used < 64) × (end ≤ 64) ⌝ }
+    ensures { λ r. ⌜ take end r ≡ zeroFilled end (take used pending ++ 0x80 ∷ []) ⌝ }
 {
     let mut p = pending;
-    p[used] = 128;
+    p[used] = 0x80;
     let mut i = used + 1;
     while i < end {
         p[i] = 0;
@@ -67,8 +74,8 @@ fn marked(pending: [u8; 64], used: usize, end: usize) -> [u8; 64]
     p
 }
 
-// `p` with a number as its last eight bytes, the highest first.
-fn counted(p: [u8; 64], bits: u64) -> [u8; 64]
+// `p` with the length field, the message's length in bits, as its last eight bytes.
+fn with_length(p: [u8; 64], bits: u64) -> [u8; 64]
     ensures { λ r. ⌜ r ≡ take 56 p ++ bigEndian 8 bits ⌝ }
 {
     let mut q = p;
@@ -81,6 +88,14 @@ fn counted(p: [u8; 64], bits: u64) -> [u8; 64]
     q[62] = ((bits >> 8) % 256) as u8;
     q[63] = (bits % 256) as u8;
     q
+}
+
+// The digest where `p` is the message's last block, but for the length field: the field goes to its end.
+fn ended(chain: State, p: [u8; 64], bits: u64) -> [u8; 32]
+    ensures { λ r. ⌜ r ≡ bytes (Fips.compress chain (take 56 p ++ bigEndian 8 bits)) ⌝ }
+{
+    let last = with_length(p, bits);
+    bytes_of(compress(chain, &last))
 }
 
 // A hash of no bytes.
@@ -135,8 +150,8 @@ pub fn absorb(h: Hash, part: &[u8]) -> Hash
     }
 }
 
-// The digest of the bytes taken. The padding goes by cases: after a last block of up to 55 bytes the count fits, and
-// after one of 56 to 63 another block follows.
+// The digest of the bytes taken. The padding goes by cases: in a last block of 0 to 55 bytes the length field fits, after one
+// of 56 to 63 another block follows.
 pub fn finish(h: Hash) -> [u8; 32]
     ensures { λ r. ⌜ r ≡ finished h ⌝ }
 {
@@ -144,14 +159,14 @@ pub fn finish(h: Hash) -> [u8; 32]
     let pending = h.pending;
     let used = (h.total % 64) as usize;
     let bits = h.total << 3;
-    if used < 56 {
-        let only = counted(marked(pending, used, 56), bits);
-        return bytes_of(compress(chain, &only));
+    if used <= MOST_WITH_LENGTH {
+        let only = marked(pending, used, LENGTH_AT);
+        return ended(chain, only, bits);
     }
     let full = marked(pending, used, 64);
     let first = compress(chain, &full);
-    let last = counted([0u8; 64], bits);
-    bytes_of(compress(first, &last))
+    let zeros = [0u8; 64];
+    ended(first, zeros, bits)
 }
 
 // The digest of `m`.

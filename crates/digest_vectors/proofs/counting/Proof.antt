@@ -11,10 +11,10 @@ use Rattle.digest_vectors.proofs.counting.Statement.{statement}
 use Rattle.digest_vectors.proofs.counting.Tie as tie
 
 abbrev Inv-loop : tie.InvT-loop
-Inv-loop b₀ i₀ b i = (i ≤ 128) × (length b ≡ 128) × (take i b ≡ count i)
+Inv-loop b₀ i₀ b i = (i ≤ 129) × (length b ≡ 129) × (take i b ≡ count i)
 
 abbrev μ-loop : tie.MeasureT-loop
-μ-loop b₀ i₀ b i = 128 - i
+μ-loop b₀ i₀ b i = 129 - i
 
 loop-holds : tie.Need-loop-holds Inv-loop μ-loop
 unfolding count
@@ -27,8 +27,8 @@ loop-again c =
 
 returns : tie.Need-returns Inv-loop μ-loop
 returns c =
-    let e : c .before .loop .i ≡ 128 = omega arith in
-    sym (take-all 128 (c .before .loop .b) (omega arith)) ∙ (rw e at (c .before .loop .inv .2))
+    let e : c .before .loop .i ≡ 129 = omega arith in
+    sym (take-all 129 (c .before .loop .b) (omega arith)) ∙ (rw e at (c .before .loop .inv .2))
 
 pub counting-spec : {M : Type 1} → statement M
 counting-spec =
