@@ -8,7 +8,7 @@
  *   - a write puts its data over the same bytes once more, half written before or not, and touches no other;
  *   - a create zeroes the same area once more: which one, the record in force says. Under a library whose SIEVELAST_VERSION differs
  *     in the second number that may be another free area; what was zeroed of the first is in no object;
- *   - a raise, a delete and a new key change the record alone, and the half changed copy is overwritten first;
+ *   - a raise, a delete, a new key and a new table change the record alone, and the half changed copy is overwritten first;
  *   - a read and a look change the record's replay memory and mark alone, a refused frame its mark and outlived entries.
  * No other frame is put to the gate in between. The client of a call done again gets no answer (wire.h says what it does then).
  * A stopped process leaves what it stored to the map; with `synced` each step waits for the disk, and the same holds for a power
@@ -114,7 +114,7 @@ static inline struct drive_map drive_file_open(const char *name)
     if (memcmp(m.file->mark, DRIVE_FILE_MARK, sizeof DRIVE_FILE_MARK))
         wire_wrong(name, "not a drive's file");
     if (!drive_file_has_form(m.file->version, sizeof m.file->version))
-        wire_wrong(name, "a drive's file of another version than " SIEVELAST_VERSION);
+        wire_wrong(name, "a drive's file of another version than " SIEVELAST_VERSION ": its records have another form");
     if (m.file->record_size != sizeof m.file->drive[0] || m.file->state > (1 | DRIVE_FILE_UNDER_WAY) ||
         m.file->length > DRIVE_FILE_BOUND || m.file->drive[m.file->state & 1].size != m.medium_len)
         wire_wrong(name, "a drive's file whose parts do not fit each other");

@@ -2,6 +2,8 @@
  *
  *   manager new DIR                          makes DIR with a random master key and drive key, for `store format`
  *   manager keys DIR                         sets new keys: the partition's and its working key 0. Credentials under old ones end
+ *   manager table DIR [OPERATION RIGHTS LEVEL]..   loads an operation table: OPERATION needs RIGHTS, a comma between two, and LEVEL;
+ *                                            one that is not named needs its own right, as it does before the first table
  *   manager create DIR NUMBER SIZE           makes object NUMBER of SIZE bytes, where they have room from a multiple of 16 on
  *   manager write DIR NUMBER < shape         writes a shape at the object's start
  *   manager raise DIR NUMBER                 gives the object its next version: credentials issued for it before open nothing
@@ -9,10 +11,12 @@
  *   manager find DIR NUMBER                  learns an object's size and version anew, where the answer to a create or raise was lost
  *   manager issue DIR NUMBER HOLDER read|write MINUTES CREDENTIAL KEY      makes the two files that holder HOLDER needs
  *
+ * Operations and rights of a table have the same words: read, write, look, raise, create, delete, key (for setting one).
  * The store's socket is DIR/socket, or where a link of this name points. Files in DIR: master, drive-key, partition-key and
- * working-key (32 bytes each); object-NUMBER (version and size) for each object; last, the greatest version seen; count, which
- * numbers the frames; lock. All have mode 600, as have CREDENTIAL and KEY. A file is replaced whole or not at all.
- * A `keys` whose answer was lost is simply done again: the keys that sign are not the ones that it changes.
+ * working-key (32 bytes each); table, the operation table that was loaded last (21); object-NUMBER (version and size) for each
+ * object; last, the greatest version seen; count, which numbers the frames; lock. All have mode 600, as have CREDENTIAL and KEY. A
+ * file is replaced whole or not at all.
+ * A `keys` or `table` whose answer was lost is simply done again: what allows them is not what they change.
  * Build: cc -Iinclude examples/manager.c target/staticlib/libsolver.a target/staticlib/libstore.a
  */
 #include "wire.h"
@@ -27,6 +31,8 @@
 #define MOST_LOST 64     /* how many versions past the last one seen `find` tries */
 #define NAME_BYTES 4096
 #define TEXT_BYTES 64
+#define LINE_BYTES (SIEVELAST_TABLE_BYTES / SIEVELAST_TABLE_OPERATIONS) /* of an operation table: two of mask, one of level */
+#define LINE_WORDS 3     /* of the command line */
 
 struct object {
     uint32_t number, version, size;
@@ -108,12 +114,60 @@ static uint32_t next_count(void)
     return count;
 }
 
+/* ---- operation tables */
+static int operation_named(const char *name)
+{
+    static const char *const names[SIEVELAST_TABLE_OPERATIONS] = {"read", "write", "look", "raise", "create", "delete", "key"};
+    for (int i = 0; i < SIEVELAST_TABLE_OPERATIONS; i++)
+        if (!strcmp(name, names[i]))
+            return i + 1;
+    wire_wrong(name, "none of read, write, look, raise, create, delete, key");
+}
+
+static uint16_t rights_named(char *list)
+{
+    uint16_t rights = 0;
+    for (char *name = strtok(list, ","); name; name = strtok(NULL, ",")) {
+        int operation = operation_named(name);
+        rights |= SIEVELAST_RIGHT(operation);
+    }
+    return rights;
+}
+
+static void put_line(uint8_t *table, int operation, uint16_t rights, uint8_t level)
+{
+    uint8_t *line = table + LINE_BYTES * (operation - 1);
+    line[0] = (uint8_t)(rights >> 8);
+    line[1] = (uint8_t)rights;
+    line[2] = level;
+}
+
+/* The table with which every partition starts: an operation needs its own right, and to set a key level 1. */
+static void first_table(uint8_t table[SIEVELAST_TABLE_BYTES])
+{
+    for (int operation = SIEVELAST_READ; operation <= SIEVELAST_SET_KEY; operation++)
+        put_line(table, operation, SIEVELAST_RIGHT(operation), operation == SIEVELAST_SET_KEY);
+}
+
+/* The rights that an operation needs under a slot: by the table that was loaded last, which rules neither the drive key's frames nor
+ * the loading of tables. */
+static uint16_t needed_rights(enum sievelast_slot slot, enum sievelast_operation operation)
+{
+    uint8_t table[SIEVELAST_TABLE_BYTES], *line = table + LINE_BYTES * (operation - 1);
+    if (slot == SIEVELAST_SLOT_DRIVE || operation == SIEVELAST_LOAD_TABLE)
+        return SIEVELAST_RIGHT(operation);
+    wire_load_exact(in_dir("table"), table, sizeof table);
+    return (uint16_t)(line[0] << 8 | line[1]);
+}
+
 /* ---- frames */
-static struct sievelast_credential own_credential(enum sievelast_operation operation)
+/* For one operation; the level is one that is enough for every table. */
+static struct sievelast_credential own_credential(enum sievelast_slot slot, enum sievelast_operation operation)
 {
     return (struct sievelast_credential){.partition = PARTITION,
+                                         .slot = (uint8_t)slot,
                                          .holder = HOLDER,
-                                         .rights = SIEVELAST_RIGHT(operation),
+                                         .rights = needed_rights(slot, operation),
                                          .least = SIEVELAST_LEVEL_REPLY,
                                          .end = UINT32_MAX,
                                          .expiry = wire_milliseconds(CLOCK_REALTIME) + OWN_TIME};
@@ -148,8 +202,7 @@ static uint64_t ask(struct sievelast_credential c, const uint8_t *slot_key, stru
 static uint64_t ask_object(struct object o, struct sievelast_request r, const uint8_t *data, struct sievelast_checked *result)
 {
     uint8_t key[SIEVELAST_KEY_BYTES];
-    struct sievelast_credential c = own_credential(r.operation);
-    c.slot = SIEVELAST_SLOT_BLACK;
+    struct sievelast_credential c = own_credential(SIEVELAST_SLOT_BLACK, r.operation);
     c.object = o.number;
     c.version = o.version;
     load_key("working-key", key);
@@ -175,7 +228,7 @@ static struct object load_object(const char *number)
 /* ---- commands */
 static void make(const char *name)
 {
-    uint8_t key[SIEVELAST_KEY_BYTES];
+    uint8_t key[SIEVELAST_KEY_BYTES], table[SIEVELAST_TABLE_BYTES];
     if (mkdir(name, 0700))
         wire_fail(name);
     enter(name);
@@ -183,6 +236,8 @@ static void make(const char *name)
     save(in_dir("master"), key, sizeof key);
     randomize(key, sizeof key);
     save(in_dir("drive-key"), key, sizeof key);
+    first_table(table);
+    save(in_dir("table"), table, sizeof table);
     save_numbers("count", 0, 0);
     save_numbers("last", WIRE_FIRST_VERSION, 0);
 }
@@ -193,8 +248,7 @@ static void set_key(enum sievelast_slot signing_slot, const char *signing_name, 
     uint8_t signing[SIEVELAST_KEY_BYTES], message[SIEVELAST_REQUEST_BYTES + SIEVELAST_SEED_BYTES];
     uint8_t *seed = message + SIEVELAST_REQUEST_BYTES;
     struct sievelast_checked result;
-    struct sievelast_credential c = own_credential(SIEVELAST_SET_KEY);
-    c.slot = (uint8_t)signing_slot;
+    struct sievelast_credential c = own_credential(signing_slot, SIEVELAST_SET_KEY);
     load_key(signing_name, signing);
     randomize(seed, SIEVELAST_SEED_BYTES);
     struct sievelast_request r = {.operation = SIEVELAST_SET_KEY, .a = target, .data_len = SIEVELAST_SEED_BYTES};
@@ -211,6 +265,26 @@ static void keys(void)
     set_key(SIEVELAST_SLOT_DRIVE, "drive-key", PARTITION, "partition-key");
     set_key(SIEVELAST_SLOT_PARTITION, "partition-key", SIEVELAST_SLOT_BLACK, "working-key");
     printf("partition %d: its key and working key 0 are set\n", PARTITION);
+}
+
+/* Operation 8: a table, signed by the partition key. */
+static void load_table(int count, char **words)
+{
+    uint8_t table[SIEVELAST_TABLE_BYTES], key[SIEVELAST_KEY_BYTES];
+    struct sievelast_checked result;
+    first_table(table);
+    for (int i = 0; i < count; i += LINE_WORDS)
+        put_line(table, operation_named(words[i]), rights_named(words[i + 1]), (uint8_t)wire_number(words[i + 2], UINT8_MAX));
+    load_key("partition-key", key);
+    uint64_t row = ask(own_credential(SIEVELAST_SLOT_PARTITION, SIEVELAST_LOAD_TABLE), key,
+                       (struct sievelast_request){.operation = SIEVELAST_LOAD_TABLE, .data_len = sizeof table}, table, &result);
+    if (row)
+        wire_refused("table not loaded", row);
+    save(in_dir("table"), table, sizeof table);
+    printf("partition %d: its operation table is", PARTITION);
+    for (int i = 0; i < SIEVELAST_TABLE_BYTES; i++)
+        printf(i % LINE_BYTES ? "%02x" : " %02x", table[i]);
+    printf("\n");
 }
 
 static void create(const char *number, const char *size)
@@ -290,12 +364,11 @@ static void issue(char **words)
 {
     struct object o = load_object(words[0]);
     enum sievelast_operation operation = !strcmp(words[2], "write") ? SIEVELAST_WRITE : SIEVELAST_READ;
-    struct sievelast_credential c = own_credential(operation);
+    struct sievelast_credential c = own_credential(SIEVELAST_SLOT_BLACK, operation);
     uint8_t key[SIEVELAST_KEY_BYTES], credential[SIEVELAST_CREDENTIAL_BYTES];
     uint64_t minutes = wire_number(words[3], UINT32_MAX);
     if (operation == SIEVELAST_READ && strcmp(words[2], "read"))
         wire_wrong(words[2], "neither read nor write");
-    c.slot = SIEVELAST_SLOT_BLACK;
     c.object = o.number;
     c.version = o.version;
     c.end = o.size;
@@ -322,6 +395,8 @@ int main(int count, char **words)
         enter(words[2]);
     if (count == 3 && !strcmp(command, "keys"))
         keys();
+    else if (count > 2 && (count - 3) % LINE_WORDS == 0 && !strcmp(command, "table"))
+        load_table(count - 3, words + 3);
     else if (count == 5 && !strcmp(command, "create"))
         create(words[3], words[4]);
     else if (count == 4 && !strcmp(command, "write"))
@@ -335,7 +410,7 @@ int main(int count, char **words)
     else if (count == 9 && !strcmp(command, "issue"))
         issue(words + 3);
     else
-        wire_wrong("usage", "manager new|keys DIR, create DIR NUMBER SIZE, write|raise|delete|find DIR NUMBER, "
-                            "issue DIR NUMBER HOLDER read|write MINUTES CREDENTIAL KEY");
+        wire_wrong("usage", "manager new|keys DIR, table DIR [OPERATION RIGHTS LEVEL].., create DIR NUMBER SIZE, "
+                            "write|raise|delete|find DIR NUMBER, issue DIR NUMBER HOLDER read|write MINUTES CREDENTIAL KEY");
     return 0;
 }

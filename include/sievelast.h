@@ -8,6 +8,9 @@
  *   29  the space is too short for the frame (96 bytes and the data)
  *   30  the reply is not the one that the request calls for: its mark, operation, level, a length, or its level 2 digest
  *
+ * Row 28 asks for a level by document 01's rule, at least 1 for setting a key and for loading a table: what a partition's operation
+ * table asks for beyond that (sievelast_records.h), the drive alone knows, and refuses by row 7.
+ *
  * Who wrote the reply. Only level 2 tells: there the drive's reply has a digest under the credential key, over credential, request
  * and result. At levels 0 and 1 the check sees that the reply has the form that the request calls for, and no more: whoever can write
  * on the wire can put any bytes there. A program that believes what it reads asks at SIEVELAST_LEVEL_REPLY.

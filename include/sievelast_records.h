@@ -26,8 +26,8 @@ extern "C" {
 
 /* ---- version: of these headers and the archives installed with them; SIEVELAST_VERSION is the three as text, with dots. The first
  * number rises with the form of a record, of a struct or of a call, the second with what a call answers or what is there to call. */
-#define SIEVELAST_VERSION_MAJOR 2
-#define SIEVELAST_VERSION_MINOR 1
+#define SIEVELAST_VERSION_MAJOR 3
+#define SIEVELAST_VERSION_MINOR 0
 #define SIEVELAST_VERSION_PATCH 0
 #define SIEVELAST_TEXT_(x) #x
 #define SIEVELAST_DOTTED_(x, y, z) SIEVELAST_TEXT_(x) "." SIEVELAST_TEXT_(y) "." SIEVELAST_TEXT_(z)
@@ -39,6 +39,7 @@ extern "C" {
 #define SIEVELAST_DIGEST_BYTES 32
 #define SIEVELAST_KEY_BYTES 32
 #define SIEVELAST_SEED_BYTES 16             /* the data of operation 7 */
+#define SIEVELAST_TABLE_BYTES 21            /* the data of operation 8: "operation tables" below */
 #define SIEVELAST_REPLY_HEAD_BYTES 8        /* a reply before its result */
 #define SIEVELAST_LOOK_BYTES 8              /* a look's result: size and version */
 #define SIEVELAST_NEW_VERSION_BYTES 4       /* the result of a raise or a create */
@@ -57,6 +58,7 @@ extern "C" {
 #define SIEVELAST_EXTENT_STEP 16      /* a new object starts at a multiple of it, counted in bytes from its quarter's start */
 #define SIEVELAST_MEMORIES 5          /* replay memories: one for each partition, a fifth for slots 3 and 4 */
 #define SIEVELAST_MOST_ENTRIES 64     /* of a replay memory */
+#define SIEVELAST_TABLE_OPERATIONS 7  /* of which an operation table speaks: 1 to 7 */
 #define SIEVELAST_TIME_WINDOW 5000    /* how far a request's time may lie from the drive's mark, in milliseconds */
 
 /* ---- operations, levels, slots, rights */
@@ -67,7 +69,8 @@ enum sievelast_operation {
     SIEVELAST_RAISE = 4,  /* the next version, for the object, or for object 0 the partition */
     SIEVELAST_CREATE = 5, /* on object 0: object a, of b bytes; "rows" below has where it can lie */
     SIEVELAST_DELETE = 6, /* the object */
-    SIEVELAST_SET_KEY = 7 /* under slot 4 the drive key, 3 partition a's key, 2 working key a; the data is a seed */
+    SIEVELAST_SET_KEY = 7, /* under slot 4 the drive key, 3 partition a's key, 2 working key a; the data is a seed */
+    SIEVELAST_LOAD_TABLE = 8 /* under slot 2, on object 0: the partition's operation table; the data is the table */
 };
 
 enum sievelast_level {
@@ -84,11 +87,25 @@ enum sievelast_slot {
     SIEVELAST_SLOT_MASTER = 4     /* the master key */
 };
 
-#define SIEVELAST_RIGHT(operation) ((uint16_t)(1u << ((operation) - 1))) /* the right that an operation needs */
+/* The right that an operation needs where no table says otherwise: bit k - 1 for operation k, and for loading a table that of setting
+ * a key. */
+#define SIEVELAST_RIGHT(operation) ((uint16_t)(1u << ((operation) == SIEVELAST_LOAD_TABLE ? SIEVELAST_SET_KEY - 1 : (operation) - 1)))
 #define SIEVELAST_EVERY_RIGHT ((uint16_t)0x7f)
 
-/* ---- rows: why a call said no; 0 means granted. The lowest row that applies is the one returned. The gate answers rows 1 to
- * 23, format 24 to 26, HMAC 27, issuer, builder and reply check 26 and 28 to 30.
+/* ---- operation tables: what a mill asks of its frames. A partition's table has for each of operations 1 to 7 a mask of rights, every
+ * one of which the credential must have (row 13), and a least level (row 7). At format it says SIEVELAST_RIGHT(k) and level 0 for
+ * operation k, but level 1 for SIEVELAST_SET_KEY. SIEVELAST_LOAD_TABLE puts another in its place, until the next one: 21 bytes, for
+ * each operation in order two of mask, the higher first, and one of level. No other operation changes it.
+ *
+ * A good table has every mask nonzero and within SIEVELAST_EVERY_RIGHT, levels of at most 2, and for SIEVELAST_SET_KEY of at least 1; a
+ * frame with another is refused by row 31.
+ *
+ * Three things keep the table of the format, whatever was loaded, with SIEVELAST_LOAD_TABLE treated as SIEVELAST_SET_KEY: frames under
+ * slots 3 and 4; SIEVELAST_LOAD_TABLE itself, so that who has the partition key can always load another; and the client end, which
+ * knows no partition's table. So what a builder writes may be under the level that the drive asks for. */
+
+/* ---- rows: why a call said no; 0 means granted. The lowest row that applies is the one returned, 31 standing between 21 and 22. The
+ * gate answers rows 1 to 23 and 31, format 24 to 26, HMAC 27, issuer, builder and reply check 26 and 28 to 30.
  *
  * SIEVELAST_ROW_NO_GAP can come although so many bytes are free, side by side: a new object needs them from a multiple of
  * SIEVELAST_EXTENT_STEP on. A quarter of 100 bytes has room for seven objects of one byte. */
@@ -123,10 +140,11 @@ enum sievelast_row {
     SIEVELAST_ROW_DIGEST_INPUT = 27,
     SIEVELAST_ROW_RECORDS = 28,
     SIEVELAST_ROW_SPACE = 29,
-    SIEVELAST_ROW_REPLY = 30
+    SIEVELAST_ROW_REPLY = 30,
+    SIEVELAST_ROW_TABLE = 31
 };
 
-#define SIEVELAST_LAST_ROW 30
+#define SIEVELAST_LAST_ROW 31
 
 /* A row's meaning in one line, without its number and without a full stop; "no such row" for any other number. */
 static inline const char *sievelast_row_text(uint64_t row)
@@ -139,13 +157,13 @@ static inline const char *sievelast_row_text(uint64_t row)
         "a field of the frame is outside its values",
         "the data length does not fit the operation, or the frame is not as long as its parts",
         "the operation does not fit the slot, the object, the version or its arguments",
-        "the level is under the credential's least, or 0 for setting a key",
+        "the level is under the credential's least, or under what the operation needs",
         "the key in the credential's slot was never set",
         "the frame's digest differs",
         "the credential has expired",
         "the request's time is over 5,000 ms from the drive's mark",
         "a frame with this nonce was granted before",
-        "the credential has not the right that the operation needs",
+        "the credential has not every right that the operation needs",
         "the object does not exist in the partition",
         "the credential's version is not the present one",
         "the bytes to read or write are not within the credential's range",
@@ -163,6 +181,7 @@ static inline const char *sievelast_row_text(uint64_t row)
         "a record is wrong: its length, its mark, a field, or the length of data or result that it calls for",
         "the space lent is too short",
         "the reply is not the one that the request calls for",
+        "the operation table is not good: a mask is 0 or has a bit over 6, or a level is over 2, or 0 for setting a key",
     };
     return row <= SIEVELAST_LAST_ROW ? text[row] : "no such row";
 }
@@ -171,11 +190,11 @@ static inline const char *sievelast_row_text(uint64_t row)
 struct sievelast_credential {
     uint64_t expiry;   /* milliseconds; the last at which the credential opens anything */
     uint32_t object;   /* 0 means the partition */
-    uint32_t version;  /* the object's or partition's present one; 0 for operation 7 */
+    uint32_t version;  /* the object's or partition's present one; 0 for operations 7 and 8 */
     uint32_t first;    /* the range of the object's bytes that may be read and written, from first .. */
     uint32_t end;      /* .. up to end, exclusive */
     uint32_t holder;   /* the client's number */
-    uint16_t rights;   /* bit k - 1 for operation k: SIEVELAST_RIGHT */
+    uint16_t rights;   /* SIEVELAST_RIGHT of operations; which of them a frame needs, its partition's table says */
     uint8_t partition; /* 0 to 3; 0 for slots 3 and 4 */
     uint8_t slot;      /* enum sievelast_slot: which key the credential's own is made from */
     uint8_t least;     /* enum sievelast_level: the least that a frame may have */
@@ -187,7 +206,7 @@ struct sievelast_request {
     uint32_t count;
     uint32_t a;        /* as enum sievelast_operation says; 0 where it says nothing */
     uint32_t b;        /* the same */
-    uint32_t data_len; /* b for a write, 16 for a new key, else 0 */
+    uint32_t data_len; /* b for a write, 16 for a new key, 21 for a table, else 0 */
     uint8_t operation; /* enum sievelast_operation */
     uint8_t level;     /* enum sievelast_level */
 };

@@ -27,9 +27,10 @@ extern "C" {
 /* ---- the record */
 #define SIEVELAST_RECORD_KEYS 462   /* bytes: 14 keys of 32 (working keys 0 of the four partitions, working keys 1, partition keys, drive
                                        key, master key), and for each one that says whether it was set */
-#define SIEVELAST_RECORD_TABLES 268 /* numbers: for each partition version, last version given, count of objects, and 16 each of
+#define SIEVELAST_RECORD_TABLES 324 /* numbers: for each partition version, last version given, count of objects, and 16 each of
                                        number, version, size, start, which is a multiple of SIEVELAST_EXTENT_STEP where a create
-                                       gave it; row 1 asks for none */
+                                       gave it; then of operations 1 to 7 the seven masks and the seven least levels. Row 1 asks
+                                       for no step, and for no good table: whatever number stands there counts with all its bits */
 #define SIEVELAST_RECORD_PLACES 320 /* entries: 64 for each replay memory */
 #define SIEVELAST_RECORD_ENTRY 4    /* numbers of an entry: slot, holder, count, the credential's object; its time stands in a row of
                                        its own */
@@ -50,7 +51,7 @@ struct sievelast_drive {
 
 /* ---- the gate's and the issuer's answers */
 struct sievelast_answered {
-    uint64_t row;    /* 0, or 1 to 23 */
+    uint64_t row;    /* 0, or 1 to 23, or 31 */
     uint64_t length; /* bytes of the reply at the start of reply; 0 when refused */
 };
 
@@ -90,7 +91,8 @@ struct sievelast_answered sievelast_gate_parts(uint64_t size, uint64_t *highwate
 /* ---- the drive */
 /* Makes a medium a drive's, and *drive its record: every byte of the medium becomes 0, partitions start at version first (not
  * 0), master and drive key have 32 bytes each. Returns 0, or row 24, 25 or 26: then the medium keeps every byte, and the record
- * becomes that of a drive that has nothing. Whatever record was there is gone either way. */
+ * becomes that of a drive that has nothing but the operation tables with which every drive starts. Whatever record was there is
+ * gone either way. */
 static inline uint64_t sievelast_format(struct sievelast_drive *drive, uint8_t *medium, size_t medium_len, uint32_t first,
                                         const uint8_t *master, size_t master_len, const uint8_t *drive_key,
                                         size_t drive_key_len)

@@ -53,17 +53,20 @@ struct draft {
     uint8_t frame[DRAFT_FRAME];
 };
 
+/* "A grant of operation 8, like one that sets a key, is bound to no version": the credential's is 0. */
+static inline int draft_unversioned(const struct draft *f) { return f->what.operation >= SIEVELAST_SET_KEY; }
+
 /* Slot, partition, object and its present version. What would need an object where there is none mostly creates one. */
 static inline void draft_who(struct draft *f, struct sievelast_drive *d, struct choices *s)
 {
     int op = f->what.operation, named = op == SIEVELAST_READ || op == SIEVELAST_WRITE || op == SIEVELAST_DELETE;
     struct sievelast_credential who = {UINT64_MAX, 0, 0, 0, UINT32_MAX, 0, SIEVELAST_EVERY_RIGHT, 0, 0, 0};
     uint32_t place = choose(s, 2 * SIEVELAST_PARTITIONS);
-    who.slot = (uint8_t)(op == SIEVELAST_SET_KEY ? 2 + choose(s, 3) : choose(s, 2));
+    who.slot = (uint8_t)(op == SIEVELAST_SET_KEY ? 2 + choose(s, 3) : op == SIEVELAST_LOAD_TABLE ? 2 : choose(s, 2));
     who.partition = (uint8_t)(who.slot < 3 && place < SIEVELAST_PARTITIONS ? place : 0); /* partition 0 more often, so that it fills */
     who.holder = choose(s, 4);
     uint32_t *t = table_of(d, who.partition), n = t[COUNT_AT] < SIEVELAST_MOST_OBJECTS ? t[COUNT_AT] : SIEVELAST_MOST_OBJECTS;
-    if (op != SIEVELAST_SET_KEY)
+    if (!draft_unversioned(f))
         who.version = t[VERSION_AT];
     if (n && (named || ((op == SIEVELAST_LOOK || op == SIEVELAST_RAISE) && choose(s, 2)))) {
         uint32_t i = choose(s, n);
@@ -91,7 +94,14 @@ static inline void draft_when(struct draft *f, const struct sievelast_drive *d, 
     f->what.count = choose(s, 256);
 }
 
-/* A and B, and the data's length. */
+/* What the drive will ask of the draft. */
+static inline struct need draft_need(const struct draft *f, struct sievelast_drive *d)
+{
+    struct paper_call q = {.partition = f->who.partition, .slot = f->who.slot, .operation = f->what.operation};
+    return need_of(d, &q);
+}
+
+/* A and B, the data's length, and a level that is enough, where there is one. */
 static inline void draft_what(struct draft *f, struct sievelast_drive *d, struct choices *s)
 {
     uint32_t *t = table_of(d, f->who.partition), i = 0;
@@ -110,8 +120,53 @@ static inline void draft_what(struct draft *f, struct sievelast_drive *d, struct
     } else if (r->operation == SIEVELAST_SET_KEY) {
         r->a = choose(s, f->who.slot == 2 ? 2 : f->who.slot == 3 ? 4 : 1);
         r->data_len = SIEVELAST_SEED_BYTES;
-        r->level += r->level == 0;
+    } else if (r->operation == SIEVELAST_LOAD_TABLE) {
+        r->data_len = SIEVELAST_TABLE_BYTES;
     }
+    uint32_t least = draft_need(f, d).level;
+    if (r->level < least && least <= SIEVELAST_LEVEL_REPLY)
+        r->level = (uint8_t)least;
+}
+
+/* A mask and a level, mostly good ones, whatever the operation. */
+static inline struct need draft_line(struct choices *s)
+{
+    struct need n;
+    uint32_t way = choose(s, 16);
+    n.mask = 1 + choose(s, SIEVELAST_EVERY_RIGHT);
+    n.level = choose(s, 3);
+    switch (way) {
+    case 1: n.mask = 0; break;
+    case 2: n.mask += SIEVELAST_EVERY_RIGHT + 1; break;
+    case 3: n.mask <<= 8; break;
+    case 4: n.level = 3; break;
+    case 5: n.level += 253; break;
+    default: break;
+    }
+    return n;
+}
+
+/* The data of operation 8: document 01's rule, with up to three lines of another kind. */
+static inline void draft_table(uint8_t *data, struct choices *s)
+{
+    struct need n[SIEVELAST_TABLE_OPERATIONS];
+    for (int i = 0; i < SIEVELAST_TABLE_OPERATIONS; i++)
+        n[i] = need_by_rule(i + 1);
+    for (uint32_t left = choose(s, 4); left; left--) {
+        uint32_t i = choose(s, SIEVELAST_TABLE_OPERATIONS);
+        n[i] = draft_line(s);
+    }
+    for (int i = 0; i < SIEVELAST_TABLE_OPERATIONS; i++)
+        put_need_in(data, i + 1, n[i]);
+}
+
+static inline void draft_data(struct draft *f, struct choices *s)
+{
+    uint8_t *data = f->frame + SIEVELAST_CREDENTIAL_BYTES + SIEVELAST_REQUEST_BYTES;
+    for (uint32_t i = 0; i < f->what.data_len; i++)
+        data[i] = (uint8_t)(f->what.count + 1 + 7 * i);
+    if (f->what.operation == SIEVELAST_LOAD_TABLE)
+        draft_table(data, s);
 }
 
 /* Holder, time and count of an entry of the draft's memory, and its slot where that is a working key's: the draft repeats a frame, or
@@ -144,6 +199,17 @@ static inline void draft_edge(struct draft *f, struct sievelast_drive *d, struct
     f->what.b = (uint32_t)((way < 2 ? remain : all) + way % 2);
 }
 
+/* The rights that the drive will ask for and no other; or without one of them; or the one that document 01 has for the operation. */
+static inline void draft_rights(struct draft *f, struct sievelast_drive *d, struct choices *s)
+{
+    uint32_t mask = draft_need(f, d).mask, way = choose(s, 4), bit = choose(s, SIEVELAST_TABLE_OPERATIONS);
+    if (way == 1)
+        mask &= ~((uint32_t)1 << bit);
+    else if (way == 2)
+        mask = SIEVELAST_RIGHT(f->what.operation);
+    f->who.rights = (uint16_t)(mask & SIEVELAST_EVERY_RIGHT);
+}
+
 /* One field that a row from 7 to 20 is about, mostly none. */
 static inline void spoil_field(struct draft *f, struct sievelast_drive *d, struct choices *s)
 {
@@ -167,6 +233,10 @@ static inline void spoil_field(struct draft *f, struct sievelast_drive *d, struc
     case 15:
     case 16:
     case 17: draft_edge(f, d, s); break;
+    case 18:
+    case 19:
+    case 20: draft_rights(f, d, s); break;
+    case 21: what->level -= what->level > 0; break;
     default: break;
     }
 }
@@ -217,7 +287,8 @@ static inline void spoil_byte(struct draft *f, size_t n, struct choices *s)
 static inline void draft_call(struct draft *f, struct sievelast_drive *d, struct choices *s)
 {
     static const uint8_t operations[] = {SIEVELAST_READ,   SIEVELAST_WRITE,  SIEVELAST_LOOK,    SIEVELAST_RAISE, SIEVELAST_CREATE,
-                                         SIEVELAST_DELETE, SIEVELAST_SET_KEY, SIEVELAST_CREATE, SIEVELAST_READ,  SIEVELAST_WRITE};
+                                         SIEVELAST_DELETE, SIEVELAST_SET_KEY, SIEVELAST_CREATE, SIEVELAST_READ,  SIEVELAST_WRITE,
+                                         SIEVELAST_LOAD_TABLE};
     f->what.operation = operations[choose(s, sizeof operations)];
     f->what.level = (uint8_t)choose(s, 3);
     draft_who(f, d, s);
@@ -226,8 +297,7 @@ static inline void draft_call(struct draft *f, struct sievelast_drive *d, struct
     spoil_field(f, d, s);
     draft_records(f);
     f->length = SIEVELAST_LEAST_FRAME_BYTES + f->what.data_len;
-    for (uint32_t i = 0; i < f->what.data_len; i++)
-        f->frame[64 + i] = (uint8_t)(f->what.count + 1 + 7 * i);
+    draft_data(f, s);
     spoil_byte(f, 64, s);
     draft_sign(f, d);
     spoil_byte(f, f->length, s);

@@ -6,6 +6,7 @@
 
 static_assert(SIEVELAST_MOST_REPLY_BYTES > SIEVELAST_MOST_RESULT_BYTES, "a reply is longer than its result");
 static_assert(SIEVELAST_RIGHT(SIEVELAST_DELETE) < SIEVELAST_EVERY_RIGHT, "a right is one of all");
+static_assert(SIEVELAST_RIGHT(SIEVELAST_LOAD_TABLE) == SIEVELAST_RIGHT(SIEVELAST_SET_KEY), "who sets keys loads tables");
 
 int main()
 {

@@ -1,8 +1,10 @@
-/* What document 01 says of a frame's records, the builder and the reply check, in plain C and written from the paper. The code under
- * test carries no counters, so these branches are also what guides the fuzzer. paper_drive.h has format and gate. */
+/* What document 01 says of a frame's records, the builder and the reply check, with change 5 of document 02, in plain C and written from
+ * the papers. The code under test carries no counters, so these branches are also what guides the fuzzer. paper_drive.h has format and
+ * gate. */
 #ifndef TESTS_PAPER_H
 #define TESTS_PAPER_H
 #include "hmac.h"
+#include "need.h"
 
 static inline uint64_t number(const uint8_t *at, int width)
 {
@@ -26,20 +28,23 @@ static inline int paper_row_4(const uint8_t *c, const uint8_t *r)
         return 1;
     if (c[3] >= 3 && c[2] != 0)
         return 1;
-    return r[2] < 1 || r[2] > 7 || r[3] > 2 || number(r + 24, 4) > 1048576;
+    return r[2] < 1 || r[2] > 8 || r[3] > 2 || number(r + 24, 4) > 1048576;
 }
 
 /* Of the request alone; a frame must also be as long as its parts. */
 static inline int paper_row_5(const uint8_t *r)
 {
-    return number(r + 24, 4) != (r[2] == 2 ? number(r + 20, 4) : r[2] == 7 ? 16 : 0);
+    return number(r + 24, 4) != (r[2] == 2 ? number(r + 20, 4) : r[2] == 7 ? 16 : r[2] == 8 ? 21 : 0);
 }
 
+/* Change 5: "Operation 8 (slot 2 ..; object, version, A and B 0 ..)". */
 static inline int paper_row_6(const uint8_t *c, const uint8_t *r)
 {
     uint64_t object = number(c + 4, 4), version = number(c + 8, 4), a = number(r + 16, 4), b = number(r + 20, 4);
     int slot = c[3], op = r[2];
     if (op <= 6 ? slot > 1 : slot < 2 || version != 0)
+        return 1;
+    if (op == 8 && (slot != 2 || object != 0 || a != 0 || b != 0))
         return 1;
     if ((op == 1 || op == 2 || op == 6) && object == 0)
         return 1;
@@ -52,13 +57,16 @@ static inline int paper_row_6(const uint8_t *c, const uint8_t *r)
     return op == 7 && (b != 0 || a > (slot == 2 ? 1u : slot == 3 ? 3u : 0u));
 }
 
-static inline int paper_row_7(const uint8_t *c, const uint8_t *r) { return r[3] < c[14] || (r[3] == 0 && r[2] == 7); }
+/* "The level is under the credential's least", or under what the operation needs. */
+static inline int paper_row_7(const uint8_t *c, const uint8_t *r, struct need n) { return r[3] < c[14] || r[3] < n.level; }
 
+/* Change 5: "row 7 at the client end, keep document 01's rule". */
 static inline int bad_records(const uint8_t *c, size_t c_len, const uint8_t *r, size_t r_len)
 {
     if (c_len != 36 || r_len != 28)
         return 1;
-    return paper_row_3(c, r) || paper_row_4(c, r) || paper_row_5(r) || paper_row_6(c, r) || paper_row_7(c, r);
+    return paper_row_3(c, r) || paper_row_4(c, r) || paper_row_5(r) || paper_row_6(c, r) ||
+           paper_row_7(c, r, need_by_rule(r[2]));
 }
 
 static inline uint64_t paper_build(const uint8_t *c, size_t c_len, const uint8_t *r, size_t r_len, size_t n, size_t key_len,

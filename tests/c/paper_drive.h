@@ -1,4 +1,4 @@
-/* What document 01 says of format and gate, with changes 2 and 3 of document 02, in plain C over the record of sievelast_store.h, and
+/* What document 01 says of format and gate, with changes 2, 3 and 5 of document 02, in plain C over the record of sievelast_store.h, and
  * written from the papers: what each call must answer and leave behind, from any record, sound or not. */
 #ifndef TESTS_PAPER_DRIVE_H
 #define TESTS_PAPER_DRIVE_H
@@ -32,7 +32,7 @@ static inline uint32_t find_object(const uint32_t *t, uint32_t object)
     return i;
 }
 
-/* ---- row 1; an area may start anywhere in its quarter */
+/* ---- row 1; an area may start anywhere in its quarter, and no operation table is asked to be good */
 static inline uint64_t end_of(const uint32_t *t, uint32_t i) { return (uint64_t)t[STARTS_AT + i] + t[SIZES_AT + i]; }
 
 static inline int object_apart(const uint32_t *t, uint32_t i)
@@ -131,8 +131,8 @@ static inline void frame_digest(struct sievelast_drive *d, const struct paper_ca
     paper_digest(key, q->c, q->r, q->data, q->level ? q->n : 0, out);
 }
 
-/* ---- rows 2 to 23, the mark being this call's */
-static inline uint64_t row_2_to_7(const uint8_t *frame, size_t frame_len)
+/* ---- rows 2 to 23 and 31, the mark being this call's */
+static inline uint64_t row_2_to_6(const uint8_t *frame, size_t frame_len)
 {
     if (frame_len < SIEVELAST_LEAST_FRAME_BYTES)
         return 2;
@@ -143,7 +143,15 @@ static inline uint64_t row_2_to_7(const uint8_t *frame, size_t frame_len)
         return 4;
     if (paper_row_5(r) || frame_len != SIEVELAST_LEAST_FRAME_BYTES + number(r + 24, 4))
         return 5;
-    return paper_row_6(c, r) ? 6 : paper_row_7(c, r) ? 7 : 0;
+    return paper_row_6(c, r) ? 6 : 0;
+}
+
+/* Change 5: "Each partition gets a table for operations 1 to 7: a mask of required rights and a least level." "Frames under slots 3 and 4
+ * .. keep document 01's rule, operation 8 treated as 7." Operation 8 itself is in no table: "rights bit 6, level at least 1". */
+static inline struct need need_of(struct sievelast_drive *d, const struct paper_call *q)
+{
+    int tabled = q->slot <= 2 && q->operation <= 7;
+    return tabled ? need_at(table_of(d, q->partition), q->operation) : need_by_rule(q->operation);
 }
 
 /* "A grant enters (slot, holder, T, count)." Change 2: "Each memory entry, and so row 12's nonce, has the credential's object too."
@@ -167,10 +175,13 @@ static inline int replayed(const struct sievelast_drive *d, const struct paper_c
     return 0;
 }
 
-static inline uint64_t row_8_to_13(struct sievelast_drive *d, const struct paper_call *q)
+static inline uint64_t row_7_to_13(struct sievelast_drive *d, const struct paper_call *q)
 {
     uint8_t digest[32];
     uint64_t mark = d->highwater;
+    struct need n = need_of(d, q);
+    if (paper_row_7(q->c, q->r, n))
+        return 7;
     if (!d->keys[FLAGS_AT + key_place(q->slot, q->partition)])
         return 8;
     frame_digest(d, q, digest);
@@ -182,7 +193,7 @@ static inline uint64_t row_8_to_13(struct sievelast_drive *d, const struct paper
         return 11;
     if (replayed(d, q))
         return 12;
-    return q->rights >> (q->operation - 1) & 1 ? 0 : 13;
+    return n.mask & ~(uint32_t)q->rights ? 13 : 0; /* "every right in the mask being needed" */
 }
 
 static inline uint64_t row_14_to_17(const uint32_t *t, const struct paper_call *q)
@@ -258,18 +269,49 @@ static inline uint64_t row_18_to_21(const uint32_t *t, uint64_t quarter, const s
     return (creates || q->operation == 4) && t[LAST_AT] == UINT32_MAX ? 21 : 0;
 }
 
+/* ---- operation 8's data: "21 data bytes, two of mask and one of level for each operation in order" */
+static inline struct need need_in(const uint8_t *data, int operation)
+{
+    const uint8_t *at = data + 3 * (operation - 1);
+    struct need n = {(uint32_t)number(at, 2), at[2]};
+    return n;
+}
+
+static inline void put_need_in(uint8_t *data, int operation, struct need n)
+{
+    uint8_t *at = data + 3 * (operation - 1);
+    put_number(at, 2, n.mask);
+    at[2] = (uint8_t)n.level;
+}
+
+/* "A good table has every mask nonzero within bits 0 to 6, levels at most 2, and at least 1 for operation 7." */
+static inline int good_table(const uint8_t *data)
+{
+    for (int op = 1; op <= 7; op++) {
+        struct need n = need_in(data, op);
+        if (n.mask == 0 || n.mask > 0x7f || n.level > 2 || (op == 7 && n.level < 1))
+            return 0;
+    }
+    return 1;
+}
+
+/* "Turned away: 31, after row 21, when the table is not good." */
+static inline uint64_t row_31(const struct paper_call *q) { return q->operation == 8 && !good_table(q->data) ? 31 : 0; }
+
 static inline size_t reply_length(const struct paper_call *q)
 {
     return SIEVELAST_REPLY_HEAD_BYTES + (size_t)paper_result(q->r) + (q->level == 2 ? SIEVELAST_DIGEST_BYTES : 0);
 }
 
-static inline uint64_t row_8_to_23(struct sievelast_drive *d, const struct paper_call *q, size_t reply_len)
+static inline uint64_t row_7_to_23(struct sievelast_drive *d, const struct paper_call *q, size_t reply_len)
 {
-    uint64_t row = row_8_to_13(d, q);
+    uint64_t row = row_7_to_13(d, q);
     if (!row)
         row = row_14_to_17(table_of(d, q->partition), q);
     if (!row)
         row = row_18_to_21(table_of(d, q->partition), quarter_of(d), q);
+    if (!row)
+        row = row_31(q);
     if (!row && d->lengths[q->memory] == SIEVELAST_MOST_ENTRIES)
         row = 22;
     return !row && reply_len < reply_length(q) ? 23 : row;
@@ -318,7 +360,7 @@ static inline void grant_delete(struct sievelast_drive *d, const struct paper_ca
     uint32_t *t = table_of(d, q->partition);
     t[COUNT_AT]--;
     for (uint32_t i = find_object(t, q->object); i < t[COUNT_AT]; i++)
-        for (int list = NUMBERS_AT; list < TABLE_NUMBERS; list += SIEVELAST_MOST_OBJECTS)
+        for (int list = NUMBERS_AT; list <= STARTS_AT; list += SIEVELAST_MOST_OBJECTS)
             t[list + i] = t[list + i + 1];
 }
 
@@ -329,6 +371,12 @@ static inline void grant_key(struct sievelast_drive *d, const struct paper_call 
     test_hmac(key_at(d, key_place(q->slot, q->partition)), 32, q->r, SIEVELAST_REQUEST_BYTES + SIEVELAST_SEED_BYTES, new_key);
     memcpy(key_at(d, place), new_key, sizeof new_key);
     d->keys[FLAGS_AT + place] = 1;
+}
+
+static inline void grant_table(struct sievelast_drive *d, const struct paper_call *q)
+{
+    for (int op = 1; op <= 7; op++)
+        put_need(table_of(d, q->partition), op, need_in(q->data, op));
 }
 
 static inline size_t paper_grant(struct sievelast_drive *d, uint8_t *medium, const struct paper_call *q, uint8_t *reply)
@@ -346,8 +394,10 @@ static inline size_t paper_grant(struct sievelast_drive *d, uint8_t *medium, con
         grant_create(d, medium, q, result);
     else if (q->operation == 6)
         grant_delete(d, q);
-    else
+    else if (q->operation == 7)
         grant_key(d, q);
+    else
+        grant_table(d, q);
     d->times[place] = q->time;
     entry_of(q, entry_at(d->entries, place));
     return paper_reply(key, q->c, q->r, reply, paper_result(q->r));
@@ -364,20 +414,29 @@ static inline struct sievelast_answered paper_gate(struct sievelast_drive *d, ui
         d->highwater = clock;
     for (int m = 0; m < SIEVELAST_MEMORIES; m++)
         drop_outlived(d, m);
-    a.row = row_2_to_7(frame, frame_len);
+    a.row = row_2_to_6(frame, frame_len);
     if (a.row)
         return a;
     struct paper_call q = paper_call_of(frame);
-    a.row = row_8_to_23(d, &q, reply_len);
+    a.row = row_7_to_23(d, &q, reply_len);
     if (!a.row)
         a.length = paper_grant(d, medium, &q, reply);
     return a;
 }
 
+/* A drive that has nothing. Its operation tables start, "in row 24's drive too, as document 01's rule". */
+static inline void empty_drive(struct sievelast_drive *d)
+{
+    memset(d, 0, sizeof *d);
+    for (int p = 0; p < SIEVELAST_PARTITIONS; p++)
+        for (int op = 1; op <= 7; op++)
+            put_need(table_of(d, p), op, need_by_rule(op));
+}
+
 static inline uint64_t paper_format(struct sievelast_drive *d, uint8_t *medium, size_t medium_len, uint32_t first, const uint8_t *master,
                                     size_t master_len, const uint8_t *key, size_t key_len)
 {
-    memset(d, 0, sizeof *d);
+    empty_drive(d);
     if (medium_len > SIEVELAST_MOST_MEDIUM_BYTES)
         return 24;
     if (first == 0)
@@ -406,9 +465,9 @@ static inline int same_table(const uint32_t *a, const uint32_t *b)
 {
     int same = a[VERSION_AT] == b[VERSION_AT] && a[LAST_AT] == b[LAST_AT] && a[COUNT_AT] == b[COUNT_AT];
     size_t n = a[COUNT_AT] < SIEVELAST_MOST_OBJECTS ? a[COUNT_AT] : SIEVELAST_MOST_OBJECTS;
-    for (int list = NUMBERS_AT; list < TABLE_NUMBERS; list += SIEVELAST_MOST_OBJECTS)
+    for (int list = NUMBERS_AT; list <= STARTS_AT; list += SIEVELAST_MOST_OBJECTS)
         same = same && !memcmp(a + list, b + list, n * sizeof *a);
-    return same;
+    return same && !memcmp(a + MASKS_AT, b + MASKS_AT, (TABLE_NUMBERS - MASKS_AT) * sizeof *a);
 }
 
 /* The first n entries of a memory. */

@@ -49,6 +49,7 @@ static void constants(void)
 
     EXPECT(SIEVELAST_CREDENTIAL_BYTES == 36 && SIEVELAST_REQUEST_BYTES == 28);
     EXPECT(SIEVELAST_DIGEST_BYTES == 32 && SIEVELAST_KEY_BYTES == 32 && SIEVELAST_SEED_BYTES == 16);
+    EXPECT(SIEVELAST_TABLE_OPERATIONS == 7 && SIEVELAST_TABLE_BYTES == 7 * (2 + 1));
     EXPECT(SIEVELAST_REPLY_HEAD_BYTES == 2 + 1 + 1 + 4);
     EXPECT(SIEVELAST_LOOK_BYTES == 4 + 4 && SIEVELAST_NEW_VERSION_BYTES == 4);
     EXPECT(SIEVELAST_LEAST_FRAME_BYTES == 36 + 28 + 32 && SIEVELAST_MOST_FRAME_BYTES == 36 + 28 + 1048576 + 32);
@@ -59,15 +60,17 @@ static void constants(void)
     EXPECT(SIEVELAST_MEMORIES == 4 + 1 && SIEVELAST_MOST_ENTRIES == 64 && SIEVELAST_TIME_WINDOW == 5000);
 
     EXPECT(SIEVELAST_READ == 1 && SIEVELAST_WRITE == 2 && SIEVELAST_LOOK == 3 && SIEVELAST_RAISE == 4);
-    EXPECT(SIEVELAST_CREATE == 5 && SIEVELAST_DELETE == 6 && SIEVELAST_SET_KEY == 7);
+    EXPECT(SIEVELAST_CREATE == 5 && SIEVELAST_DELETE == 6 && SIEVELAST_SET_KEY == 7 && SIEVELAST_LOAD_TABLE == 8);
     EXPECT(SIEVELAST_LEVEL_RECORDS == 0 && SIEVELAST_LEVEL_DATA == 1 && SIEVELAST_LEVEL_REPLY == 2);
     EXPECT(SIEVELAST_SLOT_BLACK == 0 && SIEVELAST_SLOT_GOLD == 1 && SIEVELAST_SLOT_PARTITION == 2);
     EXPECT(SIEVELAST_SLOT_DRIVE == 3 && SIEVELAST_SLOT_MASTER == 4);
-    EXPECT(SIEVELAST_RIGHT(SIEVELAST_READ) == 0x01 && SIEVELAST_RIGHT(SIEVELAST_SET_KEY) == 0x40);
+    for (int operation = SIEVELAST_READ; operation <= SIEVELAST_SET_KEY; operation++)
+        EXPECT(SIEVELAST_RIGHT(operation) == 1 << (operation - 1));
+    EXPECT(SIEVELAST_RIGHT(SIEVELAST_LOAD_TABLE) == 0x40);
     EXPECT(SIEVELAST_EVERY_RIGHT == 0x7f && sizeof SIEVELAST_EVERY_RIGHT == 2 && sizeof SIEVELAST_RIGHT(1) == 2);
 
     EXPECT(SIEVELAST_RECORD_KEYS == (1 + 1 + 4 * 3) * (32 + 1));
-    EXPECT(SIEVELAST_RECORD_TABLES == 4 * (3 + 4 * 16) && SIEVELAST_RECORD_PLACES == 5 * 64);
+    EXPECT(SIEVELAST_RECORD_TABLES == 4 * (3 + 4 * 16 + 7 + 7) && SIEVELAST_RECORD_PLACES == 5 * 64);
     EXPECT(SIEVELAST_RECORD_ENTRY == 4 && SIEVELAST_RECORD_ENTRIES == 5 * 64 * 4);
 }
 
@@ -88,6 +91,7 @@ static void layouts(void)
     EXPECT(sizeof(struct sievelast_built) == 16 && sizeof(struct sievelast_checked) == 24);
     EXPECT(sizeof(struct sievelast_answered) == 16 && sizeof(struct sievelast_issued) == 40);
     EXPECT(sizeof(struct sievelast_digest) == 40);
+    EXPECT(offsetof(struct sievelast_drive, tables) == 8 && offsetof(struct sievelast_drive, keys) == 8 + 4 * 4 * 81);
 }
 
 /* ---- rows: by number, and words of document 01's that the text must have; but for row 0 no other row's may have them */
@@ -108,7 +112,7 @@ static const struct {
     {SIEVELAST_ROW_EXPIRED, "expired"},
     {SIEVELAST_ROW_UNTIMELY, "5,000"},
     {SIEVELAST_ROW_REPLAYED, "nonce"},
-    {SIEVELAST_ROW_RIGHT_MISSING, "the right"},
+    {SIEVELAST_ROW_RIGHT_MISSING, "every right"},
     {SIEVELAST_ROW_NO_OBJECT, "does not exist"},
     {SIEVELAST_ROW_VERSION, "not the present one"},
     {SIEVELAST_ROW_RANGE, "range"},
@@ -126,12 +130,13 @@ static const struct {
     {SIEVELAST_ROW_RECORDS, "a record is wrong"},
     {SIEVELAST_ROW_SPACE, "space lent"},
     {SIEVELAST_ROW_REPLY, "reply is not the one"},
+    {SIEVELAST_ROW_TABLE, "operation table"},
 };
 
 static void row_texts(void)
 {
     const char *none = sievelast_row_text(SIEVELAST_LAST_ROW + 1);
-    EXPECT(SIEVELAST_LAST_ROW == 30 && sizeof rows / sizeof *rows == SIEVELAST_LAST_ROW + 1);
+    EXPECT(SIEVELAST_LAST_ROW == 31 && sizeof rows / sizeof *rows == SIEVELAST_LAST_ROW + 1);
     EXPECT(!strcmp(sievelast_row_text(SIEVELAST_GRANTED), rows[0].words) && !strcmp(none, "no such row"));
     for (int i = 0; i <= SIEVELAST_LAST_ROW; i++) {
         const char *text = sievelast_row_text((uint64_t)i);
@@ -195,6 +200,8 @@ static const struct request_case {
      "4c52 02 01 0102030405060708 090a0b0c 0d0e0f10 11121314 15161718"},
     {{.operation = 7, .level = 2, .time = 1000, .count = 41, .a = 1, .b = 0, .data_len = 16},
      "4c52 07 02 00000000000003e8 00000029 00000001 00000000 00000010"},
+    {{.operation = 8, .level = 1, .time = 1000, .count = 42, .a = 0, .b = 0, .data_len = 21},
+     "4c52 08 01 00000000000003e8 0000002a 00000000 00000000 00000015"},
 };
 
 static int same_credential(struct sievelast_credential x, struct sievelast_credential y)
@@ -528,6 +535,27 @@ static void credential_read(struct session *s, uint32_t version)
     EXPECT(s->built.row == SIEVELAST_ROW_RECORDS && s->built.length == 0 && s->answered.row == SIEVELAST_ROW_FRAME_SHORT);
 }
 
+/* A table loaded, through its frame and reply, is what the next frames are judged by: a mask's higher byte first, and one of level. */
+static void table_read(struct session *s, uint32_t version)
+{
+    uint8_t table[SIEVELAST_TABLE_BYTES];
+    unhex("0005 01  0002 00  0004 00  0008 00  0010 00  0020 00  0040 01", table);
+    for (uint8_t level = SIEVELAST_LEVEL_DATA; level <= SIEVELAST_LEVEL_REPLY; level++) {
+        s->request.level = level;
+        EXPECT(session_load_table(s, table) == SIEVELAST_GRANTED && s->built.length == SIEVELAST_LEAST_FRAME_BYTES + SIEVELAST_TABLE_BYTES);
+        EXPECT(s->checked.row == SIEVELAST_GRANTED && s->checked.start == SIEVELAST_REPLY_HEAD_BYTES && s->checked.length == 0);
+    }
+    s->request.level = SIEVELAST_LEVEL_RECORDS; /* under what an operation needs by document 01's rule no frame is built, .. */
+    EXPECT(session_load_table(s, table) == SIEVELAST_ROW_FRAME_SHORT && s->built.row == SIEVELAST_ROW_RECORDS);
+    session_credential(s, SIEVELAST_SLOT_BLACK, NUMBER, version);
+    EXPECT_READ(s, SIEVELAST_ROW_LEVEL_LOW); /* .. and under what the partition's table asks for the drive refuses it */
+    s->request.level = SIEVELAST_LEVEL_DATA;
+    s->credential.rights = SIEVELAST_RIGHT(SIEVELAST_READ), EXPECT_READ(s, SIEVELAST_ROW_RIGHT_MISSING);
+    s->credential.rights |= SIEVELAST_RIGHT(SIEVELAST_LOOK), EXPECT_READ(s, SIEVELAST_GRANTED);
+    table[0] = 1;
+    EXPECT(session_load_table(s, table) == SIEVELAST_ROW_TABLE && s->built.row == SIEVELAST_GRANTED);
+}
+
 /* Every record that went to the drive, decoded, gives the fields that the session asked with. */
 static void take_and_decode(struct session *s, const char *call, session_step *step)
 {
@@ -553,6 +581,7 @@ static void drive_reads(void)
     uint32_t version = operations_read(s);
     request_read(s, version);
     credential_read(s, version);
+    table_read(s, version);
     session_credential(s, SIEVELAST_SLOT_BLACK, NUMBER, version);
     session_request(s, SIEVELAST_DELETE, 0, 0);
     EXPECT_ROW(s, SIEVELAST_GRANTED);

@@ -157,6 +157,21 @@ static inline void session_credential(struct session *s, enum sievelast_slot slo
     s->credential.expiry = UINT64_MAX;
 }
 
+/* The length of the data that an operation takes. */
+static inline uint32_t session_data_len(enum sievelast_operation operation, uint32_t b)
+{
+    switch (operation) {
+    case SIEVELAST_WRITE:
+        return b;
+    case SIEVELAST_SET_KEY:
+        return SIEVELAST_SEED_BYTES;
+    case SIEVELAST_LOAD_TABLE:
+        return SIEVELAST_TABLE_BYTES;
+    default:
+        return 0;
+    }
+}
+
 /* A request at the session's clock and level, with a count that none before had. */
 static inline void session_request(struct session *s, enum sievelast_operation operation, uint32_t a, uint32_t b)
 {
@@ -165,7 +180,7 @@ static inline void session_request(struct session *s, enum sievelast_operation o
     s->request.operation = (uint8_t)operation;
     s->request.a = a;
     s->request.b = b;
-    s->request.data_len = operation == SIEVELAST_WRITE ? b : operation == SIEVELAST_SET_KEY ? SIEVELAST_SEED_BYTES : 0;
+    s->request.data_len = session_data_len(operation, b);
 }
 
 /* Sets the key of slot `to` by the key of slot `by`; `data` is the seed. The gate's row. */
@@ -177,6 +192,18 @@ static inline uint64_t session_set_key(struct session *s, enum sievelast_slot by
     s->take(s, "sievelast_hmac", session_new_key);
     if (row == SIEVELAST_GRANTED)
         memcpy(s->keys[to], s->digest.bytes, SIEVELAST_KEY_BYTES);
+    return row;
+}
+
+/* Loads partition 0's operation table; the gate's row. */
+static inline uint64_t session_load_table(struct session *s, const uint8_t table[SIEVELAST_TABLE_BYTES])
+{
+    const uint8_t *data = s->data;
+    session_credential(s, SIEVELAST_SLOT_PARTITION, 0, 0);
+    session_request(s, SIEVELAST_LOAD_TABLE, 0, 0);
+    s->data = table;
+    uint64_t row = session_ask(s);
+    s->data = data;
     return row;
 }
 

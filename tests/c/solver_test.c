@@ -11,6 +11,8 @@ static void put(uint8_t *at, int width, uint64_t x)
 
 static uint8_t credential[36], request[28], key[32], payload[64];
 
+enum { TABLE = 21 }; /* bytes that operation 8 loads */
+
 /* Object 5 of partition 1 under working key 0, every right, bytes 0 to 4096. */
 static void a_credential(int least)
 {
@@ -37,6 +39,15 @@ static void a_request(int operation, int level, uint32_t a, uint32_t b, uint32_t
     put(request + 16, 4, a);
     put(request + 20, 4, b);
     put(request + 24, 4, n);
+}
+
+/* The partition key's credential of partition 1, for operations 7 and 8. */
+static void a_partition_credential(void)
+{
+    a_credential(0);
+    credential[3] = 2;
+    put(credential + 4, 4, 0);
+    put(credential + 8, 4, 0);
 }
 
 static struct sievelast_built build(uint8_t *space, size_t space_len, size_t n)
@@ -79,9 +90,9 @@ static void refuse(uint64_t row, size_t credential_len, size_t request_len, size
     EXPECT(r.row == row && r.length == 0);
     for (size_t i = 0; i < sizeof space; i++)
         EXPECT(space[i] == 0xee);
-    /* the reply check refuses the same records by the same row, but for the data's length */
+    /* the reply check refuses the same records by the same row, where their n is the data's length */
     struct sievelast_checked c = sievelast_check(credential, credential_len, request, request_len, key, key_len, space, 8);
-    if (n == 0)
+    if (n == request[27])
         EXPECT(c.row == row && c.start == 0 && c.length == 0);
 }
 
@@ -98,9 +109,10 @@ static void builds(void)
     grant(6, 0, 0, 0, 0);
     put(credential + 4, 4, 0);
     grant(5, 0, 7, 100, 0);
-    credential[3] = 2;
-    put(credential + 8, 4, 0);
+    a_partition_credential();
     grant(7, 1, 1, 0, 16);
+    grant(8, 1, 0, 0, TABLE);
+    grant(8, 2, 0, 0, TABLE);
 
     a_credential(0);
     a_request(1, 0, 0, 16, 0);
@@ -117,12 +129,34 @@ static void builds(void)
     credential[13] |= 0x80, refuse(28, 36, 28, 0, 32), credential[13] &= 0x7f;
     credential[14] = 3, refuse(28, 36, 28, 0, 32), credential[14] = 0;
     credential[15] = 1, refuse(28, 36, 28, 0, 32), credential[15] = 0;
-    request[2] = 0, refuse(28, 36, 28, 0, 32), request[2] = 8, refuse(28, 36, 28, 0, 32), request[2] = 1;
+    request[2] = 0, refuse(28, 36, 28, 0, 32), request[2] = 8, refuse(28, 36, 28, 0, 32);
+    request[2] = 9, refuse(28, 36, 28, 0, 32), request[2] = 1;
     request[3] = 3, refuse(28, 36, 28, 0, 32), request[3] = 0;
     a_request(2, 0, 0, 11, 10), refuse(28, 36, 28, 10, 32);
     a_request(3, 0, 1, 0, 0), refuse(28, 36, 28, 0, 32);
     a_request(5, 0, 7, 100, 0), refuse(28, 36, 28, 0, 32);
     a_credential(1), a_request(1, 0, 0, 16, 0), refuse(28, 36, 28, 0, 32);
+}
+
+/* The client end knows no partition's table: of operation 8 it refuses what document 01's rule refuses of 7, and no table. */
+static void tables(void)
+{
+    a_partition_credential();
+    a_request(8, 0, 0, 0, TABLE), refuse(28, 36, 28, TABLE, 32); /* the level */
+    a_request(8, 1, 0, 0, TABLE - 1), refuse(28, 36, 28, TABLE - 1, 32);
+    a_request(8, 1, 0, 0, TABLE + 1), refuse(28, 36, 28, TABLE + 1, 32);
+    a_request(8, 1, 0, 0, TABLE), refuse(28, 36, 28, TABLE - 1, 32);
+    a_request(8, 1, 1, 0, TABLE), refuse(28, 36, 28, TABLE, 32);
+    a_request(8, 1, 0, 1, TABLE), refuse(28, 36, 28, TABLE, 32);
+    a_request(8, 1, 0, 0, TABLE);
+    credential[14] = 2, refuse(28, 36, 28, TABLE, 32), credential[14] = 0;
+    put(credential + 4, 4, 1), refuse(28, 36, 28, TABLE, 32), put(credential + 4, 4, 0);
+    put(credential + 8, 4, 1), refuse(28, 36, 28, TABLE, 32), put(credential + 8, 4, 0);
+    credential[3] = 0, refuse(28, 36, 28, TABLE, 32);
+    credential[3] = 1, refuse(28, 36, 28, TABLE, 32);
+    credential[2] = 0;
+    credential[3] = 3, refuse(28, 36, 28, TABLE, 32);
+    credential[3] = 4, refuse(28, 36, 28, TABLE, 32);
 }
 
 static struct sievelast_checked check(const uint8_t *reply, size_t reply_len)
@@ -140,7 +174,7 @@ static int wrong(const uint8_t *reply, size_t reply_len)
 static void reply_of(int operation, int level, uint32_t a, uint32_t b, size_t n)
 {
     uint8_t reply[200], covered[300];
-    a_request(operation, level, a, b, 0);
+    a_request(operation, level, a, b, operation == 8 ? TABLE : operation == 7 ? 16 : 0);
     put(reply, 2, 0x4c41);
     reply[2] = (uint8_t)operation;
     reply[3] = (uint8_t)level;
@@ -179,7 +213,12 @@ static void replies(void)
     reply_of(3, 2, 0, 0, 8);
     reply_of(4, 2, 0, 0, 4);
     reply_of(6, 0, 0, 0, 0);
+    a_partition_credential();
+    reply_of(7, 2, 1, 0, 0);
+    reply_of(8, 1, 0, 0, 0);
+    reply_of(8, 2, 0, 0, 0);
     uint8_t none[8] = {0};
+    a_credential(0);
     a_request(1, 0, 0, 4194305, 0);
     EXPECT(check(none, 8).row == 28);
     a_request(1, 0, 0, 4194304, 0);
@@ -210,6 +249,7 @@ int main(void)
     for (int i = 0; i < 64; i++)
         payload[i] = (uint8_t)(i * i);
     builds();
+    tables();
     replies();
     edges();
     return expected("solver");

@@ -102,6 +102,16 @@ static void operations(struct session *s, enum sievelast_level level)
     EXPECT_ROW(s, SIEVELAST_GRANTED);
 }
 
+/* Operation 8: a table, and one that is not good. */
+static void tables(struct session *s, enum sievelast_level level)
+{
+    uint8_t table[SIEVELAST_TABLE_BYTES] = {0, 1, 0, 0, 2, 0, 0, 4, 0, 0, 8, 0, 0, 16, 0, 0, 32, 0, 0, 64, 1};
+    s->request.level = (uint8_t)level;
+    EXPECT(session_load_table(s, table) == SIEVELAST_GRANTED);
+    table[SIEVELAST_TABLE_BYTES - 1] = 0;
+    EXPECT(session_load_table(s, table) == SIEVELAST_ROW_TABLE);
+}
+
 /* The tables of a partition and its replay memory full; then the mark moves on, and every entry is dropped. */
 static void full_tables(struct session *s)
 {
@@ -149,6 +159,8 @@ int main(void)
     operations(s, SIEVELAST_LEVEL_RECORDS);
     operations(s, SIEVELAST_LEVEL_DATA);
     operations(s, SIEVELAST_LEVEL_REPLY);
+    tables(s, SIEVELAST_LEVEL_DATA);
+    tables(s, SIEVELAST_LEVEL_REPLY);
     full_tables(s);
     rest(s);
     for (size_t i = 0; i < CALLS && deepest[i].call; i++) {

@@ -9,6 +9,7 @@ set -eu
 cd "$(dirname "$0")/../.."
 examples=${EXAMPLES:-examples}
 archives='target/staticlib/libsolver.a target/staticlib/libstore.a'
+major=$(awk '$2 == "SIEVELAST_VERSION_MAJOR" { print $3 }' include/sievelast_records.h)
 out=$(mktemp -d)
 server=
 flood=
@@ -148,14 +149,48 @@ row 20 'create one of a byte, with 11 free between the logs' m create 4714 1
 granted 'delete it' m delete 4713
 say 'a log that would fit behind the second, and not from a multiple of 16 on: row 20'
 
+# may_read WHAT: holder 7, by the credential named first, reads the first log
+may_read() {
+    granted "$1" shape first
+    same "the shape: $1" log printed
+}
+may_read 'read by the first table'
+granted 'a table by which reads need look too' m table read read,look 0
+is 'the table' 'partition 0: its operation table is 000500 000200 000400 000800 001000 002000 004001' "$(cat printed)"
+row 13 'a credential with the read right alone' shape first
+granted 'issue by that table' m issue 4711 7 read 10 both.credential both.key
+granted 'read with both rights' shape both
+same 'the shape with both rights' log printed
+row 31 'a table with a level of 3' m table read read 3
+row 31 'a table without a right' m table read '' 0
+row 31 'a table by which a key is set at level 0' m table key key 0
+wrong 'none of read, write' 'a right of no name' m table read reed 0
+row 13 'the credential with the read right alone, after these' shape first
+say 'a table by which reads need look too: the old credential is row 13, a new one reads; tables that are not good are row 31'
+
 stop
 [ ! -e mill/socket ] || fail 'the socket is there after the end'
-put_bytes mill/drive 16 '2.0.0\0'
+put_bytes mill/drive 16 "$major.9.1\0"
 serve
-granted 'read after a restart' shape first
+granted 'read after a restart' shape both
 same 'the shape after a restart' log printed
 row 12 'the old frame after a restart' ./store send mill/socket <frame
-say 'a restart, on a file as version 2.0.0 left it: the shape is there, and the old frame is still row 12'
+row 13 'the credential with the read right alone, after a restart' shape first
+say 'a restart, on a file as another version of the same first number left it: shape and table are there, the old frame is still row 12'
+
+granted 'a table by which writes need level 2' m table write write 2
+is 'the table' 'partition 0: its operation table is 000100 000202 000400 000800 001000 002000 004001' "$(cat printed)"
+granted 'write at level 2' m write 4711 <log
+may_read 'read where reads need no look'
+granted 'a table that asks for other rights than their own' m table create look,raise 2 write delete 1 raise look 0 delete read,key 2
+granted 'create by it' m create 4713 16
+granted 'write by it' m write 4713 <short
+granted 'raise by it' m raise 4713
+granted 'delete by it' m delete 4713
+granted 'the first table again' m table
+is 'the first table' 'partition 0: its operation table is 000100 000200 000400 000800 001000 002000 004001' "$(cat printed)"
+may_read 'read by the first table again'
+say "a table by which writes need level 2, one that asks for other rights of the manager's own frames, and the first one again"
 
 wrong 'another server has it' 'a second server of the drive' no_server mill/drive other
 granted 'a second drive' ./store format second 4096 mill/master mill/drive-key
@@ -174,12 +209,16 @@ spoilt() {
 }
 spoilt 0 '\377' "not a drive's file" mark
 spoilt 16 '\377' 'another version' version
-spoilt 16 '1.1.0' 'another version' 'first number of the version'
-spoilt 16 '20.1.0' 'another version' 'first number of the version'
+spoilt 16 "$((major - 1)).1.0" 'another version' 'first number of the version'
+spoilt 16 "${major}0.1.0" 'another version' 'first number of the version'
 spoilt 32 '\377' 'do not fit' 'record size'
+cp second other
+put_bytes other 16 '2.1.0\0'
+put_bytes other 32 '\70\44' # 9,272: what a record had in version 2
+wrong 'another version than [0-9.]*: its records have another form' 'a file as version 2.1.0 left it' no_server other other-socket
 head -c 100 second >other
 wrong "not a drive's file" 'a file cut off' no_server other other-socket
-say 'a file of another mark, version or record size, and one cut off: refused'
+say 'a file of another mark, version or record size, one of version 2.1.0 and one cut off: refused'
 
 before=$(cut -d ' ' -f 1 mill/count)
 granted raise m raise 4711
@@ -289,8 +328,16 @@ granted 'read' shape reader
 head -c $mebibyte /dev/zero >zeros
 same 'the bytes of a create broken off' zeros printed
 stop
+broken_off 'a table' m table read read,look 0 key look 2
+row 13 'read with the read right alone after a table' shape reader
+granted 'a table once more' m table read read,look 0 key look 2
+granted 'issue' m issue 6 9 read 10 reader.credential reader.key
+granted 'read' shape reader
+same 'the bytes after a table broken off' zeros printed
+stop
 broken_off 'new keys' m keys
 granted 'new keys once more' m keys
+granted 'the first table again' m table
 row 9 'a credential under the old working key' shape next
 granted 'issue under the new' m issue 4711 7 read 10 next.credential next.key
 granted 'read under the new' shape next
@@ -298,7 +345,7 @@ same 'the shape under new keys' log printed
 granted 'issue to a head' m issue 6 8 write 10 head.credential head.key
 granted 'issue to a solver' m issue 6 9 read 10 reader.credential reader.key
 stop
-say 'a write, raise, read, delete, create and new key, each stopped in the middle: done again whole'
+say 'a write, raise, read, delete, create, new table and new key, each stopped in the middle: done again whole'
 
 : >said
 play 'kills' kills ./store mill/drive mill/socket head.credential head.key reader.credential reader.key 8 said

@@ -1,5 +1,5 @@
-/* Plays a trace of formats, objects put into a table, and calls against the drive as C has it, and prints for each record a line with
- * what it left behind: row, reply length, the whole reply space, a digest of the medium and of the 8 bytes behind it.
+/* Plays a trace of formats, objects and needs put into a table, and calls against the drive as C has it, and prints for each record a
+ * line with what it left behind: row, reply length, the whole reply space, a digest of the medium and of the 8 bytes behind it.
  * tests/model/src/bin/library.rs has the layouts of all; crates/drive_replay does the same in Rattle.
  *
  *   tests/differential-library target/store_replay
@@ -89,6 +89,18 @@ static int object(void)
     return 0;
 }
 
+/* What a partition's operation table has for an operation from now on, though no table that is loaded may have it. */
+static int need(void)
+{
+    int partition = head[1], operation = head[2];
+    struct need n = {(uint32_t)number(4, 4), (uint32_t)number(8, 4)};
+    if (partition >= SIEVELAST_PARTITIONS || operation < 1 || operation > SIEVELAST_TABLE_OPERATIONS)
+        return cut();
+    put_need(table_of(&drive, partition), operation, n);
+    put_line(0, 0, NULL, 0);
+    return 0;
+}
+
 /* A call, whose first part is read. */
 static int call(void)
 {
@@ -121,6 +133,8 @@ int main(void)
             status = format();
         else if (head[0] == 'O')
             status = object();
+        else if (head[0] == 'N')
+            status = need();
         else
             status = head[0] == 'C' ? call() : cut();
     }

@@ -194,8 +194,8 @@ static void rows_of_the_frame(void)
 {
     static const struct { uint64_t row; uint8_t at, value; } cases[] = {
         {3, 0, 0x4d}, {3, 1, 0}, {3, 36, 0}, {3, 37, 0x43}, /* marks */
-        {4, 2, 4}, {4, 3, 5}, {4, 12, 1}, {4, 13, 0xff}, {4, 14, 3}, {4, 15, 1}, {4, 38, 0}, {4, 38, 8}, {4, 39, 3}, {4, 60, 1},
-        {5, 63, 1}, {5, 38, SIEVELAST_WRITE}, {5, 38, SIEVELAST_SET_KEY}, /* the data's length */
+        {4, 2, 4}, {4, 3, 5}, {4, 12, 1}, {4, 13, 0xff}, {4, 14, 3}, {4, 15, 1}, {4, 38, 0}, {4, 38, 9}, {4, 39, 3}, {4, 60, 1},
+        {5, 63, 1}, {5, 38, SIEVELAST_WRITE}, {5, 38, SIEVELAST_SET_KEY}, {5, 38, SIEVELAST_LOAD_TABLE}, /* the data's length */
         {6, 3, SIEVELAST_SLOT_PARTITION}, {6, 7, 0}, {6, 38, SIEVELAST_CREATE}, {6, 38, SIEVELAST_LOOK}, {6, 38, SIEVELAST_DELETE},
         {8, 3, SIEVELAST_SLOT_GOLD}, {8, 2, 3}, /* keys that nobody set */
         {9, 0 + 7, 9}, {9, 36 + 11, 1}, {9, 64, 0}, {9, 95, 0},
@@ -361,7 +361,7 @@ static uint32_t hand_made(int partition, const char *areas)
     uint32_t *t = table_of(&drive, partition), first, last;
     int length;
     memset(buffer, FILL, sizeof buffer);
-    memset(&drive, 0, sizeof drive);
+    empty_drive(&drive);
     drive.size = PLACED_MEDIUM;
     every_key();
     t[VERSION_AT] = t[LAST_AT] = PLACED_VERSION;
@@ -494,6 +494,346 @@ static void memory_of_objects(void)
     EXPECT_NUMBER(head_row(SIEVELAST_LOOK, OTHER, LATER, 0, LATER), 12);
 }
 
+/* ---- a mill's own operation table: all keys are set, and every partition has the same object */
+enum { MINE, NEIGHBOUR, OPERATIONS = SIEVELAST_TABLE_OPERATIONS, LINE = SIEVELAST_TABLE_BYTES / OPERATIONS, PIECE = 9 };
+
+/* Tables as operation 8 loads them: for each operation two bytes of mask and one of level. */
+typedef uint8_t operation_table[SIEVELAST_TABLE_BYTES];
+static const operation_table by_rule = {0, 0x01, 0, 0, 0x02, 0, 0, 0x04, 0, 0, 0x08, 0, 0, 0x10, 0, 0, 0x20, 0, 0, 0x40, 1};
+/* "One mill wants reads to need the look right too, .. */
+static const operation_table reads_look = {0, 0x05, 0, 0, 0x02, 0, 0, 0x04, 0, 0, 0x08, 0, 0, 0x10, 0, 0, 0x20, 0, 0, 0x40, 1};
+/* .. another every write at level 2." */
+static const operation_table writes_sealed = {0, 0x01, 0, 0, 0x02, 2, 0, 0x04, 0, 0, 0x08, 0, 0, 0x10, 0, 0, 0x20, 0, 0, 0x40, 1};
+/* No line is another's, nor document 01's. */
+static const operation_table odd = {0, 0x7f, 2, 0, 0x03, 1, 0, 0x0c, 2, 0, 0x01, 0, 0, 0x41, 1, 0, 0x60, 2, 0, 0x11, 2};
+
+static uint32_t mask_in(const operation_table t, int op) { return (uint32_t)t[LINE * (op - 1)] << 8 | t[LINE * (op - 1) + 1]; }
+static uint32_t level_in(const operation_table t, int op) { return t[LINE * (op - 1) + 2]; }
+
+/* Whether a partition's operation table is this one. */
+static int has_table(int partition, const operation_table right)
+{
+    const uint32_t *t = table_of(&drive, partition);
+    int same = 1;
+    for (int op = 1; op <= OPERATIONS; op++)
+        same = same && t[MASKS_AT + op - 1] == mask_in(right, op) && t[LEVELS_AT + op - 1] == level_in(right, op);
+    return same;
+}
+
+static void ready_mills(void)
+{
+    ready(1);
+    every_key();
+    for (int p = NEIGHBOUR; p < SIEVELAST_PARTITIONS; p++)
+        memcpy(table_of(&drive, p), table_of(&drive, MINE), TABLE_NUMBERS * sizeof *drive.tables);
+}
+
+/* A request for an operation under a slot, which no row but 7 and 13 refuses on such a drive. */
+static void ask_under(int partition, int slot, int operation)
+{
+    static const uint32_t fields[][5] = {
+        /* object, version, A, B, data length */
+        [SIEVELAST_READ] = {OBJECT, 2, 3, PIECE, 0},
+        [SIEVELAST_WRITE] = {OBJECT, 2, 3, PIECE, PIECE},
+        [SIEVELAST_LOOK] = {OBJECT, 2, 0, 0, 0},
+        [SIEVELAST_RAISE] = {OBJECT, 2, 0, 0, 0},
+        [SIEVELAST_CREATE] = {0, 1, 5, 6, 0},
+        [SIEVELAST_DELETE] = {OBJECT, 2, 0, 0, 0},
+        [SIEVELAST_SET_KEY] = {0, 0, 0, 0, SIEVELAST_SEED_BYTES},
+        [SIEVELAST_LOAD_TABLE] = {0, 0, 0, 0, SIEVELAST_TABLE_BYTES},
+    };
+    const uint32_t *f = fields[operation];
+    ask(operation, f[0], f[1], f[2], f[3]);
+    who.partition = (uint8_t)partition;
+    who.slot = (uint8_t)slot;
+    what.data_len = f[4];
+}
+
+/* Puts it, signed by the record's own keys and without the builder, which would not write every one; its row. */
+static uint64_t row_signed(const uint8_t *data)
+{
+    struct draft f;
+    what.count = next_count++;
+    f.who = who, f.what = what;
+    f.length = SIEVELAST_LEAST_FRAME_BYTES + what.data_len;
+    draft_records(&f);
+    memcpy(f.frame + SIEVELAST_CREDENTIAL_BYTES + SIEVELAST_REQUEST_BYTES, data, what.data_len);
+    draft_sign(&f, &drive);
+    struct lending l = {f.frame, f.length, REPLY, drive.size, CLOCK, 0, 0};
+    return put(l).row;
+}
+
+static void raise_partition(void)
+{
+    ask_under(MINE, SIEVELAST_SLOT_BLACK, SIEVELAST_RAISE);
+    who.object = 0, who.version = table_of(&drive, MINE)[VERSION_AT];
+    EXPECT_NUMBER(row_signed(seed), 0);
+}
+
+/* The row with these rights and this level; what the call changes is put back. */
+static uint64_t row_under(int partition, int slot, int operation, uint32_t rights, uint32_t level)
+{
+    struct sievelast_drive kept = drive;
+    uint8_t kept_bytes[sizeof buffer];
+    memcpy(kept_bytes, buffer, sizeof buffer);
+    snprintf(under_way, sizeof under_way, "operation %d under slot %d of partition %d, rights %#" PRIx32 ", level %" PRIu32, operation,
+             slot, partition, rights, level);
+    ask_under(partition, slot, operation);
+    who.rights = (uint16_t)rights;
+    what.level = (uint8_t)level;
+    uint64_t r = row_signed(operation == SIEVELAST_LOAD_TABLE ? odd : by_rule);
+    *under_way = 0;
+    drive = kept;
+    memcpy(buffer, kept_bytes, sizeof buffer);
+    return r;
+}
+
+/* An operation needs these rights and this level, each of them, and no more. */
+static void needs(int partition, int slot, int operation, uint32_t mask, uint32_t level)
+{
+    EXPECT_NUMBER(row_under(partition, slot, operation, mask, level), 0);
+    for (uint32_t bit = 1; bit <= SIEVELAST_EVERY_RIGHT; bit <<= 1)
+        EXPECT_NUMBER(row_under(partition, slot, operation, SIEVELAST_EVERY_RIGHT & ~bit, SIEVELAST_LEVEL_REPLY), mask & bit ? 13 : 0);
+    for (uint32_t under = 0; under < level; under++)
+        EXPECT_NUMBER(row_under(partition, slot, operation, 0, under), 7);
+}
+
+/* Operations 1 to 7 need what the table has; under slots 3 and 4, and to load a table, document 01's rule holds. */
+static void needs_by(int partition, const operation_table table)
+{
+    EXPECT(has_table(partition, table));
+    for (int op = 1; op <= OPERATIONS; op++) {
+        int sets = op == SIEVELAST_SET_KEY, last = sets ? SIEVELAST_SLOT_PARTITION : SIEVELAST_SLOT_GOLD;
+        for (int slot = sets ? last : SIEVELAST_SLOT_BLACK; slot <= last; slot++)
+            needs(partition, slot, op, mask_in(table, op), level_in(table, op));
+    }
+    needs(partition, SIEVELAST_SLOT_PARTITION, SIEVELAST_LOAD_TABLE, 0x40, 1);
+    needs(0, SIEVELAST_SLOT_DRIVE, SIEVELAST_SET_KEY, 0x40, 1);
+    needs(0, SIEVELAST_SLOT_MASTER, SIEVELAST_SET_KEY, 0x40, 1);
+}
+
+/* Operation 8 through issuer and builder. */
+static void make_load(int partition, const operation_table table)
+{
+    ask_under(partition, SIEVELAST_SLOT_PARTITION, SIEVELAST_LOAD_TABLE);
+    make(key_at(&drive, key_place(SIEVELAST_SLOT_PARTITION, partition)), table);
+}
+
+static uint64_t load(int partition, const operation_table table)
+{
+    make_load(partition, table);
+    return row();
+}
+
+static void two_mills(void)
+{
+    ready_mills();
+    for (int p = 0; p < SIEVELAST_PARTITIONS; p++)
+        needs_by(p, by_rule);
+    EXPECT_NUMBER(load(MINE, reads_look), 0);
+    EXPECT_NUMBER(row_under(MINE, SIEVELAST_SLOT_BLACK, SIEVELAST_READ, 1, 0), 13);
+    EXPECT_NUMBER(row_under(MINE, SIEVELAST_SLOT_BLACK, SIEVELAST_READ, 5, 0), 0);
+    EXPECT_NUMBER(row_under(NEIGHBOUR, SIEVELAST_SLOT_BLACK, SIEVELAST_READ, 1, 0), 0);
+    needs_by(MINE, reads_look);
+    EXPECT_NUMBER(load(MINE, writes_sealed), 0);
+    EXPECT_NUMBER(row_under(MINE, SIEVELAST_SLOT_BLACK, SIEVELAST_WRITE, 2, 1), 7);
+    EXPECT_NUMBER(row_under(MINE, SIEVELAST_SLOT_BLACK, SIEVELAST_WRITE, 2, 2), 0);
+    EXPECT_NUMBER(row_under(NEIGHBOUR, SIEVELAST_SLOT_BLACK, SIEVELAST_WRITE, 2, 0), 0);
+    needs_by(MINE, writes_sealed);
+    needs_by(NEIGHBOUR, by_rule);
+    ask_under(MINE, SIEVELAST_SLOT_BLACK, SIEVELAST_WRITE), who.least = SIEVELAST_LEVEL_REPLY, what.level = SIEVELAST_LEVEL_DATA;
+    EXPECT_NUMBER(row_signed(by_rule), 7);
+    ask_under(MINE, SIEVELAST_SLOT_BLACK, SIEVELAST_READ), who.least = SIEVELAST_LEVEL_REPLY, what.level = SIEVELAST_LEVEL_DATA;
+    EXPECT_NUMBER(row_signed(by_rule), 7); /* the credential's own least, where the table asks for less */
+}
+
+/* A table that says otherwise of every operation, in each partition in turn, and then the first one again. */
+static void odd_table(void)
+{
+    ready_mills();
+    for (int p = 0; p < SIEVELAST_PARTITIONS; p++) {
+        EXPECT_NUMBER(load(p, odd), 0);
+        needs_by(p, odd);
+        needs_by((p + 1) % SIEVELAST_PARTITIONS, by_rule);
+        EXPECT_NUMBER(load(p, by_rule), 0);
+        needs_by(p, by_rule);
+    }
+}
+
+/* ---- good tables and others: one line of a table changed. A table that is not good leaves every byte of the record. */
+static void loads(uint64_t right, int operation, uint32_t mask, uint32_t level)
+{
+    operation_table table;
+    struct sievelast_drive before = drive;
+    memcpy(table, odd, sizeof table);
+    table[LINE * (operation - 1)] = (uint8_t)(mask >> 8);
+    table[LINE * (operation - 1) + 1] = (uint8_t)mask;
+    table[LINE * (operation - 1) + 2] = (uint8_t)level;
+    snprintf(under_way, sizeof under_way, "operation %d: mask %#" PRIx32 ", level %" PRIu32, operation, mask, level);
+    EXPECT_NUMBER(load(MINE, table), right);
+    EXPECT(right ? !memcmp(&drive, &before, sizeof drive) : has_table(MINE, table));
+    *under_way = 0;
+    drive = before;
+}
+
+static void good_and_bad(void)
+{
+    static const uint32_t bad_masks[] = {0, 0x80, 0x81, 0xff, 0x100, 0x101, 0x8000, 0xffff}, bad_levels[] = {3, 4, 0x80, 0xff};
+    ready_mills();
+    for (int op = 1; op <= OPERATIONS; op++) {
+        for (uint32_t mask = 1; mask <= SIEVELAST_EVERY_RIGHT; mask++)
+            loads(0, op, mask, SIEVELAST_LEVEL_DATA);
+        for (size_t i = 0; i < sizeof bad_masks / sizeof *bad_masks; i++)
+            loads(31, op, bad_masks[i], SIEVELAST_LEVEL_DATA);
+        loads(op == SIEVELAST_SET_KEY ? 31 : 0, op, 1, SIEVELAST_LEVEL_RECORDS);
+        loads(0, op, 1, SIEVELAST_LEVEL_REPLY);
+        for (size_t i = 0; i < sizeof bad_levels / sizeof *bad_levels; i++)
+            loads(31, op, 1, bad_levels[i]);
+    }
+}
+
+/* ---- the rows of operation 8 from 5 on, by bytes of a frame that is granted otherwise */
+/* The row of the frame at hand with two bytes changed, as long as its parts. */
+static uint64_t row_of_load(size_t at, uint8_t value, uint8_t level)
+{
+    uint8_t kept = frame[at], kept_level = frame[39];
+    snprintf(under_way, sizeof under_way, "byte %zu is %d, the level %d", at, value, level);
+    frame[39] = level;
+    frame[at] = value;
+    struct lending l = lending();
+    l.frame_len = SIEVELAST_LEAST_FRAME_BYTES + frame[63];
+    uint64_t r = put(l).row;
+    frame[39] = kept_level;
+    frame[at] = kept;
+    *under_way = 0;
+    return r;
+}
+
+static void rows_of_the_load(void)
+{
+    static const struct { uint64_t row; uint8_t at, value; } cases[] = {
+        {5, 63, 20}, {5, 63, 22}, {5, 63, 0}, {5, 63, 16}, /* the data's length */
+        {6, 3, SIEVELAST_SLOT_BLACK}, {6, 3, SIEVELAST_SLOT_GOLD}, {6, 3, SIEVELAST_SLOT_DRIVE}, {6, 3, SIEVELAST_SLOT_MASTER},
+        {6, 4, 1}, {6, 7, 1}, {6, 8, 1}, {6, 11, 1}, {6, 52, 1}, {6, 55, 1}, {6, 56, 1}, {6, 59, 1}, /* object, version, A, B */
+        {9, 64, 1}, {9, 84, 1}, /* the table is signed */
+    };
+    ready_mills();
+    make_load(MINE, odd);
+    for (size_t i = 0; i < sizeof cases / sizeof *cases; i++) {
+        EXPECT_NUMBER(row_of_load(cases[i].at, cases[i].value, SIEVELAST_LEVEL_REPLY), cases[i].row);
+        EXPECT_NUMBER(row_of_load(cases[i].at, cases[i].value, SIEVELAST_LEVEL_RECORDS), cases[i].row < 7 ? cases[i].row : 7);
+    }
+    EXPECT_NUMBER(row_of_load(14, SIEVELAST_LEVEL_REPLY, SIEVELAST_LEVEL_DATA), 7); /* the credential's least level */
+    EXPECT_NUMBER(row_of_load(14, SIEVELAST_LEVEL_DATA, SIEVELAST_LEVEL_DATA), 9);
+    struct lending l = lending();
+    l.frame_len--, EXPECT_NUMBER(put(l).row, 5);
+    EXPECT_NUMBER(row(), 0);
+    EXPECT_NUMBER(row(), 12);
+    EXPECT_NUMBER(row_under(MINE, SIEVELAST_SLOT_PARTITION, SIEVELAST_LOAD_TABLE, 0x3f, SIEVELAST_LEVEL_DATA), 13);
+    raise_partition();
+    EXPECT_NUMBER(load(MINE, odd), 0); /* bound to no version */
+}
+
+/* ---- which row comes first */
+static void order_of_the_load(void)
+{
+    operation_table bad;
+    memcpy(bad, odd, sizeof bad), bad[0] = 1;
+    ready_mills();
+    drive.keys[FLAGS_AT + key_place(SIEVELAST_SLOT_GOLD, MINE)] = 0;
+    drive.keys[FLAGS_AT + key_place(SIEVELAST_SLOT_PARTITION, NEIGHBOUR)] = 0;
+    EXPECT_NUMBER(load(MINE, odd), 0);
+    EXPECT_NUMBER(row_under(MINE, SIEVELAST_SLOT_GOLD, SIEVELAST_READ, SIEVELAST_EVERY_RIGHT, 1), 7); /* a key that nobody set */
+    EXPECT_NUMBER(row_under(MINE, SIEVELAST_SLOT_GOLD, SIEVELAST_READ, 0, 2), 8);
+    EXPECT_NUMBER(row_under(NEIGHBOUR, SIEVELAST_SLOT_PARTITION, SIEVELAST_LOAD_TABLE, 0, 0), 7);
+    EXPECT_NUMBER(row_under(NEIGHBOUR, SIEVELAST_SLOT_PARTITION, SIEVELAST_LOAD_TABLE, 0, 1), 8);
+    ask_under(MINE, SIEVELAST_SLOT_PARTITION, SIEVELAST_LOAD_TABLE), who.rights = 0x3f, EXPECT_NUMBER(row_signed(bad), 13);
+    make_load(MINE, bad);
+    struct lending l = lending();
+    l.reply_len = 0, EXPECT_NUMBER(put(l).row, 31);
+    while (drive.lengths[MINE] < SIEVELAST_MOST_ENTRIES && !failures)
+        EXPECT_NUMBER(load(MINE, odd), 0);
+    EXPECT_NUMBER(load(MINE, bad), 31);
+    EXPECT_NUMBER(load(MINE, odd), 22);
+    /* refused, of the record the mark moves and what it outlived goes, and no more */
+    uint32_t before[SIEVELAST_RECORD_TABLES];
+    memcpy(before, drive.tables, sizeof before);
+    ask_under(MINE, SIEVELAST_SLOT_PARTITION, SIEVELAST_LOAD_TABLE), who.expiry = LATER, what.time = LATER;
+    make(key_at(&drive, key_place(SIEVELAST_SLOT_PARTITION, MINE)), bad);
+    l = lending(), l.clock = LATER, EXPECT_NUMBER(put(l).row, 31);
+    EXPECT(drive.highwater == LATER && drive.lengths[MINE] == 0 && !memcmp(before, drive.tables, sizeof before));
+}
+
+/* The reply of a load: its head, at level 2 a digest, and no result. */
+static void reply_of_the_load(void)
+{
+    for (int level = SIEVELAST_LEVEL_DATA; level <= SIEVELAST_LEVEL_REPLY; level++) {
+        size_t length = SIEVELAST_REPLY_HEAD_BYTES + (level == SIEVELAST_LEVEL_REPLY ? SIEVELAST_DIGEST_BYTES : 0);
+        ready_mills();
+        ask_under(MINE, SIEVELAST_SLOT_PARTITION, SIEVELAST_LOAD_TABLE), what.level = (uint8_t)level;
+        make(key_at(&drive, key_place(SIEVELAST_SLOT_PARTITION, MINE)), odd);
+        struct lending l = lending();
+        l.reply_len = length - 1, EXPECT_NUMBER(put(l).row, 23);
+        l.reply_len = length;
+        struct sievelast_answered a = put(l);
+        EXPECT_NUMBER(a.row, 0);
+        EXPECT_NUMBER(a.length, length);
+    }
+}
+
+/* Every other operation leaves every partition's table, a delete that moves fourteen objects too; and so do refused ones. */
+static void table_stays(void)
+{
+    static const uint8_t slots[] = {0, 0, 1, 0, 1, 0, 1, 2};
+    ready_mills();
+    for (uint32_t i = 0; i < SIEVELAST_MOST_OBJECTS - 2; i++)
+        add_object(table_of(&drive, MINE), NEW + i, 1, 1, NEXT + STEP * i);
+    EXPECT_NUMBER(load(MINE, odd), 0);
+    struct sievelast_drive loaded = drive;
+    for (int op = 1; op <= OPERATIONS; op++)
+        for (int slot = slots[op]; slot <= (op == SIEVELAST_SET_KEY ? SIEVELAST_SLOT_MASTER : slots[op]); slot++) {
+            drive = loaded;
+            ask_under(MINE, slot, op), EXPECT_NUMBER(row_signed(seed), 0);
+            EXPECT(has_table(MINE, odd) && has_table(NEIGHBOUR, by_rule));
+            ask_under(MINE, slot, op), who.rights = 0, EXPECT_NUMBER(row_signed(seed), 13);
+            EXPECT(has_table(MINE, odd) && has_table(NEIGHBOUR, by_rule));
+        }
+    raise_partition();
+    EXPECT(has_table(MINE, odd) && has_table(NEIGHBOUR, by_rule));
+}
+
+/* ---- a record with lines that no load makes: row 1 asks for none, and every bit of them counts */
+static void any_line(void)
+{
+    static const struct { struct need line; uint64_t bare, full; } lines[] = { /* rows without a right at level 0, with all at level 2 */
+        {{0, 0}, 0, 0}, {{0, 2}, 7, 0}, {{0, 3}, 7, 7}, {{0, 0x100}, 7, 7}, {{0, 0x10000}, 7, 7}, {{0, UINT32_MAX}, 7, 7},
+        {{0x7f, 0}, 13, 0}, {{0x80, 0}, 13, 13}, {{0xff, 0}, 13, 13}, {{0x100, 0}, 13, 13}, {{0x10000, 0}, 13, 13},
+        {{(uint32_t)1 << 31, 0}, 13, 13}, {{UINT32_MAX, 0}, 13, 13}, {{UINT32_MAX, UINT32_MAX}, 7, 7},
+    };
+    ready_mills();
+    for (int op = 1; op <= OPERATIONS; op++)
+        for (size_t i = 0; i < sizeof lines / sizeof *lines; i++) {
+            int slot = op == SIEVELAST_SET_KEY ? SIEVELAST_SLOT_PARTITION : SIEVELAST_SLOT_BLACK, p = (op + (int)i) % SIEVELAST_PARTITIONS;
+            struct need kept = need_at(table_of(&drive, p), op);
+            put_need(table_of(&drive, p), op, lines[i].line);
+            EXPECT_NUMBER(row_under(p, slot, op, 0, 0), lines[i].bare);
+            EXPECT_NUMBER(row_under(p, slot, op, SIEVELAST_EVERY_RIGHT, SIEVELAST_LEVEL_REPLY), lines[i].full);
+            needs(p, SIEVELAST_SLOT_PARTITION, SIEVELAST_LOAD_TABLE, 0x40, 1);
+            put_need(table_of(&drive, p), op, kept);
+        }
+}
+
+/* The drive of a refused format: its tables are document 01's rule, too, and no key signs anything. */
+static void has_nothing(void)
+{
+    for (int p = 0; p < SIEVELAST_PARTITIONS; p++) {
+        EXPECT(has_table(p, by_rule));
+        EXPECT_NUMBER(row_under(p, SIEVELAST_SLOT_BLACK, SIEVELAST_LOOK, SIEVELAST_EVERY_RIGHT, 0), 8);
+        EXPECT_NUMBER(row_under(p, SIEVELAST_SLOT_PARTITION, SIEVELAST_SET_KEY, SIEVELAST_EVERY_RIGHT, 0), 7);
+        EXPECT_NUMBER(row_under(p, SIEVELAST_SLOT_PARTITION, SIEVELAST_SET_KEY, SIEVELAST_EVERY_RIGHT, 1), 8);
+    }
+}
+
 /* ---- row 23: a reply space too short by one, exact and longer, for each operation and level; the rest of the reply is checked */
 static void reply_spaces(int level)
 {
@@ -549,10 +889,13 @@ static void formats(int largest)
     ready(1);
     EXPECT_NUMBER(format(MEDIUM, 0, KEY, KEY), 25);
     EXPECT_NUMBER(row(), 1);
+    has_nothing();
     ready(1);
     EXPECT_NUMBER(format(MEDIUM, 1, KEY - 1, KEY), 26);
+    has_nothing();
     ready(1);
     EXPECT_NUMBER(format(MEDIUM, 1, KEY, 0), 26);
+    has_nothing();
     EXPECT_NUMBER(format(MEDIUM, 0, 0, 0), 25);
     EXPECT_NUMBER(sievelast_format(&drive, NULL, 0, 1, NULL, 0, NULL, 0), 26);
     EXPECT_NUMBER(sievelast_format(&drive, NULL, 0, 1, master, KEY, drive_key, KEY), 0);
@@ -563,6 +906,7 @@ static void formats(int largest)
     size_t kept = 0, zeros = 0;
     EXPECT_NUMBER(answered(sievelast_format(&drive, large.bytes, large.length, 0, NULL, 0, NULL, 0), 0).row, 24);
     EXPECT_NUMBER(drive.size, 0);
+    has_nothing();
     while (kept < large.length && large.bytes[kept] == FILL)
         kept++;
     EXPECT_NUMBER(kept, large.length);
@@ -789,15 +1133,24 @@ int main(int argc, char **argv)
     two_heads();
     entries_moved();
     memory_of_objects();
+    two_mills();
+    odd_table();
+    good_and_bad();
+    rows_of_the_load();
+    order_of_the_load();
+    reply_of_the_load();
+    table_stays();
+    any_line();
     for (int level = 0; level <= SIEVELAST_LEVEL_REPLY; level++)
         reply_spaces(level);
     alignments();
     formats(largest);
     issuer();
     hmacs(largest);
-    for (uint64_t r = 0; r <= SIEVELAST_ROW_SPACE; r++) {
+    for (uint64_t r = 0; r <= SIEVELAST_LAST_ROW; r++) {
+        int large = r == SIEVELAST_ROW_MEDIUM_LARGE || r == SIEVELAST_ROW_DIGEST_INPUT;
         snprintf(under_way, sizeof under_way, "row %" PRIu64, r);
-        EXPECT(answers[r] > 0 || (!largest && (r == SIEVELAST_ROW_MEDIUM_LARGE || r == SIEVELAST_ROW_DIGEST_INPUT)));
+        EXPECT(answers[r] > 0 || (!largest && large) || r == SIEVELAST_ROW_REPLY); /* the last is the reply check's */
     }
     *under_way = 0;
     spoiled(rounds);

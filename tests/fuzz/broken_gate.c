@@ -50,9 +50,45 @@ __attribute__((unused)) static int off_step(const uint32_t *tables)
     return 0;
 }
 
-/* ---- drives that put a create's area by another rule than change 3's */
+/* ---- drives that judge otherwise than the real one, which is asked all the same */
 #if BROKEN_gate > 21
-enum { OTHER_STEP = 8, MOST_BYTES = 4096, NO_GAP = 20 };
+enum { MOST_BYTES = 4096 };
+
+static void copy(void *to, const void *from, size_t n)
+{
+    if (n)
+        memcpy(to, from, n);
+}
+
+/* The real drive where the wrong one meets a row more: a grant is undone, and the row comes before what the real drive goes on to. */
+static struct sievelast_answered turned_away(uint64_t row, const struct paper_call *q, GATE_PARAMETERS)
+{
+    static uint8_t medium_before[MOST_BYTES], reply_before[MOST_BYTES];
+    uint8_t keys_before[SIEVELAST_RECORD_KEYS];
+    uint32_t before[SIEVELAST_RECORD_TABLES];
+    copy(keys_before, keys, sizeof keys_before);
+    copy(before, tables, sizeof before);
+    copy(medium_before, medium, medium_len);
+    copy(reply_before, reply, reply_len);
+    struct sievelast_answered a = __real_sievelast_gate_parts(GATE_PASSED), refused = {row, 0};
+    if (a.row == 0) {
+        copy(keys, keys_before, sizeof keys_before);
+        copy(tables, before, sizeof before);
+        copy(medium, medium_before, medium_len);
+        copy(reply, reply_before, reply_len);
+        lengths[q->memory]--;
+    }
+    return a.row && a.row <= row ? a : refused;
+}
+#endif
+
+#if BROKEN_gate > 30
+#include "broken_table.h"
+#endif
+
+/* ---- drives that put a create's area by another rule than change 3's */
+#if BROKEN_gate > 21 && BROKEN_gate <= 30
+enum { OTHER_STEP = 8 };
 
 static uint64_t wrong_place(struct gap g, uint64_t quarter_start)
 {
@@ -103,12 +139,6 @@ static struct choice wrong_choice(const uint32_t *t, uint64_t quarter, const str
     return best;
 }
 
-static void copy(void *to, const void *from, size_t n)
-{
-    if (n)
-        memcpy(to, from, n);
-}
-
 /* The real drive on a medium with wider quarters, where the partition's objects lie behind the narrower one, so that it finds room for
  * the new one; then all is put where the wrong rule has it, as far as the medium goes. */
 static struct sievelast_answered placed(struct choice c, const struct paper_call *q, GATE_PARAMETERS)
@@ -131,36 +161,18 @@ static struct sievelast_answered placed(struct choice c, const struct paper_call
     return a;
 }
 
-/* The real drive where the wrong rule finds no gap: a grant is undone, and row 20 comes before what the real drive goes on to. */
-static struct sievelast_answered nowhere(const struct paper_call *q, GATE_PARAMETERS)
-{
-    static uint8_t medium_before[MOST_BYTES], reply_before[MOST_BYTES];
-    uint32_t before[SIEVELAST_RECORD_TABLES];
-    copy(before, tables, sizeof before);
-    copy(medium_before, medium, medium_len);
-    copy(reply_before, reply, reply_len);
-    struct sievelast_answered a = __real_sievelast_gate_parts(GATE_PASSED), refused = {NO_GAP, 0};
-    if (a.row == 0) {
-        copy(tables, before, sizeof before);
-        copy(medium, medium_before, medium_len);
-        copy(reply, reply_before, reply_len);
-        lengths[q->memory]--;
-    }
-    return a.row && a.row <= NO_GAP ? a : refused;
-}
-
 /* The real drive, but for where a create puts its area. */
 static struct sievelast_answered misplaced(GATE_PARAMETERS)
 {
     struct sievelast_drive d = {.size = size};
     copy(d.tables, tables, sizeof d.tables);
     copy(d.lengths, lengths, sizeof d.lengths);
-    int judged = paper_sound(&d) && medium_len == size && !row_2_to_7(frame, frame_len);
+    int judged = paper_sound(&d) && medium_len == size && !row_2_to_6(frame, frame_len);
     if (!judged || paper_call_of(frame).operation != SIEVELAST_CREATE)
         return __real_sievelast_gate_parts(GATE_PASSED);
     struct paper_call q = paper_call_of(frame);
     struct choice c = wrong_choice(table_of(&d, q.partition), quarter_of(&d), &q);
-    return c.start == NOWHERE ? nowhere(&q, GATE_PASSED) : placed(c, &q, GATE_PASSED);
+    return c.start == NOWHERE ? turned_away(SIEVELAST_ROW_NO_GAP, &q, GATE_PASSED) : placed(c, &q, GATE_PASSED);
 }
 #endif
 
@@ -174,9 +186,27 @@ uint64_t __wrap_sievelast_format_parts(FORMAT_PARAMETERS)
 #elif BROKEN_gate == 2 /* a refused format clears the medium */
     if (row && medium_len)
         memset(medium, 0, medium_len);
+#elif BROKEN_gate == 42 /* a refused format leaves no operation table */
+    for (uint32_t *t = tables; row && t < tables + SIEVELAST_RECORD_TABLES; t += TABLE_NUMBERS)
+        memset(t + MASKS_AT, 0, (TABLE_NUMBERS - MASKS_AT) * sizeof *t);
 #endif
     (void)kept;
     return row;
+}
+
+/* The real drive, or one that judges otherwise. */
+static struct sievelast_answered answer_of(GATE_PARAMETERS)
+{
+#if BROKEN_gate == 21 /* row 1 asks for the step */
+    struct sievelast_answered unsound = {1, 0};
+    return off_step(tables) ? unsound : __real_sievelast_gate_parts(GATE_PASSED);
+#elif BROKEN_gate > 30
+    return mistabled(GATE_PASSED);
+#elif BROKEN_gate > 21
+    return misplaced(GATE_PASSED);
+#else
+    return __real_sievelast_gate_parts(GATE_PASSED);
+#endif
 }
 
 struct sievelast_answered __wrap_sievelast_gate_parts(GATE_PARAMETERS)
@@ -185,14 +215,7 @@ struct sievelast_answered __wrap_sievelast_gate_parts(GATE_PARAMETERS)
     uint32_t before[SIEVELAST_RECORD_ENTRIES];
     memcpy(held, lengths, sizeof held);
     memcpy(before, entries, sizeof before);
-#if BROKEN_gate == 21 /* row 1 asks for the step */
-    struct sievelast_answered unsound = {1, 0};
-    struct sievelast_answered a = off_step(tables) ? unsound : __real_sievelast_gate_parts(GATE_PASSED);
-#elif BROKEN_gate > 21
-    struct sievelast_answered a = misplaced(GATE_PASSED);
-#else
-    struct sievelast_answered a = __real_sievelast_gate_parts(GATE_PASSED);
-#endif
+    struct sievelast_answered a = answer_of(GATE_PASSED);
 #if BROKEN_gate == 3 /* one byte past the reply space */
     if (a.row == 0)
         spoil(reply + reply_len);

@@ -127,10 +127,28 @@ static void promised_object(const struct paper_call *q, struct sievelast_drive *
     MUST((uint64_t)t[STARTS_AT + last] + q->b <= after->size / SIEVELAST_PARTITIONS);
 }
 
-/* What holds of every call, judged without the paper's gate. */
-static void promised(struct sievelast_answered a, const struct sievelast_drive *before, struct sievelast_drive *after)
+/* "A grant keeps to the table that earlier grants loaded": under slots 0 to 2, operations 1 to 7 have every right and the level that their
+ * partition's had. Operation 8 loads its own partition's, and no other grant changes one. */
+static void promised_tables(const struct paper_call *q, struct sievelast_drive *before, struct sievelast_drive *after)
 {
-    MUST(a.row <= 23);
+    int loads = q->operation == SIEVELAST_LOAD_TABLE;
+    if (!loads && q->slot <= SIEVELAST_SLOT_PARTITION) {
+        struct need n = need_at(table_of(before, q->partition), q->operation);
+        MUST((n.mask & ~(uint32_t)q->rights) == 0 && n.level <= (uint32_t)q->level);
+    }
+    for (int p = 0; p < SIEVELAST_PARTITIONS; p++)
+        for (int op = 1; op <= SIEVELAST_TABLE_OPERATIONS; op++) {
+            struct need n = need_at(table_of(after, p), op), old = need_at(table_of(before, p), op);
+            const uint8_t *line = q->data + 3 * (op - 1);
+            int own = loads && p == q->partition;
+            MUST(n.mask == (own ? (uint32_t)line[0] << 8 | line[1] : old.mask) && n.level == (own ? line[2] : old.level));
+        }
+}
+
+/* What holds of every call, judged without the paper's gate. */
+static void promised(struct sievelast_answered a, struct sievelast_drive *before, struct sievelast_drive *after)
+{
+    MUST(a.row <= 23 || a.row == 31);
     MUST(after->size == before->size);
     MUST(after->highwater >= before->highwater);
     if (a.row == 1)
@@ -145,6 +163,7 @@ static void promised(struct sievelast_answered a, const struct sievelast_drive *
         MUST(a.length == reply_length(&q) && a.length <= reply.length);
         if (q.operation == SIEVELAST_CREATE)
             promised_object(&q, after);
+        promised_tables(&q, before, after);
     }
     for (size_t i = a.length; i < reply.length; i++)
         MUST(reply.lent[i] == FILL);
@@ -213,6 +232,20 @@ static void a_spoil(struct choices *s)
     spoil_number(&drive, p, i, way, s);
 }
 
+/* A line of an operation table that the record has from now on; no table that is loaded need have it. */
+static void a_line(struct choices *s)
+{
+    uint32_t *t = table_of(&drive, (int)choose(s, SIEVELAST_PARTITIONS));
+    int operation = 1 + (int)choose(s, SIEVELAST_TABLE_OPERATIONS);
+    uint32_t way = choose(s, 4);
+    struct need n = draft_line(s);
+    if (way == 1)
+        n.mask = (uint32_t)choose_number(s, 4);
+    if (way == 2)
+        n.level = (uint32_t)choose_number(s, 4);
+    put_need(t, operation, n);
+}
+
 /* A format, and mostly a record that has seen much. */
 static void start(struct choices *s)
 {
@@ -225,6 +258,10 @@ static void start(struct choices *s)
 static void a_step(struct choices *s)
 {
     switch (choose(s, 16)) {
+    case 9:
+        a_line(s);
+        a_draft(s, named_medium());
+        break;
     case 10:
     case 11:
         a_spoil(s);

@@ -68,7 +68,7 @@ static inline void put_right(void)
     }
     if (head[6] & 8) {
         c[2] &= 3, c[3] %= 5, c[12] = 0, c[13] &= 0x7f, c[14] %= 3, c[15] = 0;
-        r[2] = (uint8_t)(r[2] % 7 + 1), r[3] %= 3;
+        r[2] = (uint8_t)(r[2] % 8 + 1), r[3] %= 3;
     }
     if (head[6] & 2)
         put_number(r + 24, 4, rest.length);

@@ -34,7 +34,8 @@ pub fn issue(c: rules::Credential, key: &[u8], space: &mut [u8]) -> Issued
     }
 }
 
-// Writes a frame at the start of `space`: credential, request, data and the digest under the credential key.
+// Writes a frame at the start of `space`: credential, request, data and the digest under the credential key. It knows no
+// drive's operation tables: a level that document 01's rule allows, a partition's table may still refuse (row 7).
 pub fn build(credential: &[u8], request: &[u8], bytes: &[u8], key: &[u8], space: &mut [u8]) -> Built
     ensures { λ r. ⌜ BuildMet (now (credential .entry)) (now (request .entry)) (now (bytes .entry)) (now (key .entry)) (now (space .entry)) r (now (space .exit)) ⌝ }
 {

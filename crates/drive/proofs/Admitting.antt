@@ -1,5 +1,5 @@
--- What the code of `admit` finds and does, in the rules' words: rows 8, 9 and the judged ones, and the grant. All of the facts,
--- keys, table and memory that a frame can see.
+-- What the code of `admit` finds and does, in the rules' words: rows 7, 8, 9 and the judged ones, and the grant. All of the
+-- facts, keys, table and memory that a frame can see.
 use mathlib.Core.Path.{_≡_, refl, sym, ap, subst, _∙_}
 use mathlib.Core.Bool.{Bool, true, false, not, cond}
 use mathlib.Core.Option.{Option, none, some}
@@ -16,6 +16,7 @@ use Rattle.digest.specs.Hmac.{hmac}
 use Rattle.rules.specs.declared.Credential.{Credential}
 use Rattle.rules.specs.declared.Request.{Request}
 use Rattle.rules.specs.declared.Entry.{Entry}
+use Rattle.rules.specs.declared.Need.{Need}
 use Rattle.rules.specs.declared.Object.{Object}
 use Rattle.rules.specs.declared.Operation.{Operation}
 use Rattle.rules.specs.Frame.{Fields, fields, digestSize, covered, entry, operation, operationOf, keySize}
@@ -33,7 +34,8 @@ use Rattle.rules.specs.Operations.{
   perform,
   remember,
 }
-use Rattle.rules.specs.Rows.{row8, row9, row12, driveRows, scopeRows}
+use Rattle.rules.specs.Needs.{needUnder}
+use Rattle.rules.specs.Rows.{lowLevel, needOf, row7, row8, row9, row12, driveRows, scopeRows}
 use Rattle.rules.specs.Gate.{Answer, granted, refused}
 use Rattle.rules.proofs.Clear.{Clear, clear22}
 use Rattle.rules.proofs.Memories.{room-left}
@@ -41,7 +43,7 @@ use Rattle.wire.specs.declared.ParsedRequest.{ParsedRequest}
 use Rattle.wire.specs.Parse.{numbersOf, frameRow}
 use Rattle.keyring.specs.Keys.{keysIn, keyIndex}
 use Rattle.state.specs.declared.Lookup.{Lookup}
-use Rattle.state.specs.Table.{objectsIn, partitionIn, lookupIn}
+use Rattle.state.specs.Table.{needsIn, objectsIn, partitionIn, lookupIn}
 use Rattle.judge.specs.declared.ScopeFacts.{ScopeFacts}
 use Rattle.judge.specs.Judge.{placementFor, FactsHold}
 use Rattle.effect.specs.declared.GrantContext.{GrantContext}
@@ -53,7 +55,7 @@ use Rattle.sealed_reply.specs.Reply.{replyPut}
 use Rattle.sealed_reply.specs.Performed.{reply-is}
 use Rattle.partition.specs.Applied.{ChangeFits}
 use Rattle.drive.specs.declared.Outcome.{Outcome}
-use Rattle.drive.specs.Admission.{scopeFrom, scopeAnswer, grantContext, AdmitRequires, OutcomeMet}
+use Rattle.drive.specs.Admission.{scopeFrom, scopeAnswer, grantContext, AdmitRequires, ServeRequires, OutcomeMet}
 use Rattle.drive.proofs.Frames.{parsed-row, parsed-credential, parsed-request}
 use Rattle.drive.proofs.Grants.{numbers-operation, bytes-fit, result-long, reply-room, context-fits, change-fits}
 
@@ -65,11 +67,10 @@ secret-is ks j k e =
     let n : keySize * j + keySize - keySize * j ≡ keySize = omega arith in
     ap (λ (i : ℕ). take i (drop (keySize * j) ks)) n ∙ ap (λ (i : ℕ). take keySize (drop (keySize * i) ks)) e
 
--- what the code works out before it judges: the request's numbers, the lengths of result and reply, the object that the
+-- what the code works out before it judges, of the request's numbers r: the lengths of result and reply, the object that the
 -- credential names, and where a new extent would start
-pub record Prepared (s : ScopeFacts) (t : List ℕ) (c : Credential) (request : ParsedRequest) (r : Request) (n whole : ℕ)
-    (found : Lookup) (place : Option ℕ) : Type 0 where
-  pub numbers : r ≡ numbersOf request
+pub record Prepared (s : ScopeFacts) (t : List ℕ) (c : Credential) (r : Request) (n whole : ℕ) (found : Lookup)
+    (place : Option ℕ) : Type 0 where
   pub result : n ≡ resultLength r
   pub reply : whole ≡ headSize + n + cond (r .level is 2) digestSize 0
   pub named : found ≡ lookupIn (objectsIn t) (c .object)
@@ -92,26 +93,45 @@ module _ {s : ScopeFacts} {ks t : List ℕ} {l : List Entry} {m f : List ℕ} {c
   name-is : operationOf y ≡ request .operation
   name-is = ap operation (sym request-is) ∙ numbers-operation request
 
-  -- ---- rows 8 and on, for a reply space
+  -- ---- row 7, by what the operation needs
+  needed : needOf S (y .cred) (y .req) ≡ needUnder (needsIn t) (c .slot) (numbersOf request .operation)
+  unfolding needOf partitionIn
+  needed = rw (c-is, request-is) refl
+
+  pub level-is : row7 S (y .cred) (y .req)
+      ≡ lowLevel (needUnder (needsIn t) (c .slot) (numbersOf request .operation)) c (numbersOf request)
+  unfolding row7
+  level-is = rw (needed, ← c-is, ← request-is) refl
+
+  -- ---- rows 7 and on, for a reply space
   module _ (space : List ℕ) where
     abbrev table : List Row
     table = driveRows S y space
 
     abbrev judged : List Row
-    judged = scopeRows S (y .cred) (y .req) (length space)
+    judged = scopeRows S (y .cred) (y .req) (y .payload) (length space)
 
     abbrev from9 : List Row
     from9 = line 9 (row9 S y) ∷ judged
 
-    table-is : table ≡ line 8 (row8 S (y .cred)) ∷ from9
+    abbrev from8 : List Row
+    from8 = line 8 (row8 S (y .cred)) ∷ from9
+
+    table-is : table ≡ line 7 (row7 S (y .cred) (y .req)) ∷ from8
     unfolding driveRows
     table-is = refl
 
-    pub eight : keyIn (keysIn ks) (c .partition) (c .slot) ≡ none → firstRow table ≡ 8
+    pub seven : row7 S (y .cred) (y .req) ≡ true → firstRow table ≡ 7
+    seven low = ap firstRow table-is ∙ row-here (line 7 (row7 S (y .cred) (y .req))) from8 low
+
+    past7 : row7 S (y .cred) (y .req) ≡ false → firstRow table ≡ firstRow from8
+    past7 high = ap firstRow table-is ∙ row-next (line 7 (row7 S (y .cred) (y .req))) from8 high
+
+    pub eight : row7 S (y .cred) (y .req) ≡ false → keyIn (keysIn ks) (c .partition) (c .slot) ≡ none → firstRow table ≡ 8
     unfolding row8 missing
-    eight unset =
+    eight high unset =
         let r : row8 S (y .cred) ≡ true = rw (← c-is, unset) refl in
-        ap firstRow table-is ∙ row-here (line 8 (row8 S (y .cred))) from9 r
+        past7 high ∙ row-here (line 8 (row8 S (y .cred))) from9 r
 
   -- the key that the code found
   module _ {secret : List ℕ} (set : keyIn (keysIn ks) (c .partition) (c .slot) ≡ some secret) where
@@ -129,14 +149,14 @@ module _ {s : ScopeFacts} {ks t : List ℕ} {l : List Entry} {m f : List ℕ} {c
     unfolding credentialKey
     credential-key = ap (λ (k : List ℕ). hmac k (y .credential)) (sym signing-is)
 
-    past8 : (space : List ℕ) → firstRow (table space) ≡ firstRow (from9 space)
+    past8 : (space : List ℕ) → row7 S (y .cred) (y .req) ≡ false → firstRow (table space) ≡ firstRow (from9 space)
     unfolding row8 missing
-    past8 space =
+    past8 space high =
         let r : row8 S (y .cred) ≡ false = rw found-is refl in
-        ap firstRow (table-is space) ∙ row-next (line 8 (row8 S (y .cred))) (from9 space) r
+        past7 space high ∙ row-next (line 8 (row8 S (y .cred))) (from9 space) r
 
     -- the digest compared
-    module _ (space : List ℕ) (signed : Bool) (compared : signed ≡ same (y .digest) (hmac (credentialKey (keysIn ks) y)
+    module _ (space : List ℕ) (high : row7 S (y .cred) (y .req) ≡ false) (signed : Bool) (compared : signed ≡ same (y .digest) (hmac (credentialKey (keysIn ks) y)
         (covered (request .level) (y .credential) (y .request) (y .payload)))) where
       row9-is : row9 S y ≡ not signed
       unfolding row9 digestOf numbersOf
@@ -144,11 +164,12 @@ module _ {s : ScopeFacts} {ks t : List ℕ} {l : List Entry} {m f : List ℕ} {c
           (covered l (y .credential) (y .request) (y .payload)))) (sym (ap Request.level request-is)) ∙ sym compared)
 
       pub nine : signed ≡ false → firstRow (table space) ≡ 9
-      nine h = past8 space ∙ row-here (line 9 (row9 S y)) (judged space) (row9-is ∙ ap not h)
+      nine h = past8 space high ∙ row-here (line 9 (row9 S y)) (judged space) (row9-is ∙ ap not h)
 
-      pub from10 : signed ≡ true → firstRow (table space) ≡ firstRow (scopeRows S c (numbersOf request) (length space))
+      pub from10 : signed ≡ true
+          → firstRow (table space) ≡ firstRow (scopeRows S c (numbersOf request) (y .payload) (length space))
       from10 h =
-          past8 space ∙ row-next (line 9 (row9 S y)) (judged space) (row9-is ∙ ap not h)
+          past8 space high ∙ row-next (line 9 (row9 S y)) (judged space) (row9-is ∙ ap not h)
           ∙ rw (c-is, request-is) refl
 
   -- ---- a refusal
@@ -197,83 +218,92 @@ module _ {s : ScopeFacts} {ks t : List ℕ} {l : List Entry} {m f : List ℕ} {c
       unfolding granted
       partition-performed = rw (answer, name-is) refl
 
-  -- ---- what is judged, and granted, of what the code worked out
-  module _ {r : Request} {n whole : ℕ} {found : Lookup} {place : Option ℕ} (p : Prepared s t c request r n whole found place)
-    where
-      whole-is : whole ≡ replyLength r
-      unfolding replyLength
-      whole-is = p .reply ∙ ap (λ (i : ℕ). headSize + i + cond (r .level is 2) digestSize 0) (p .result)
+-- ---- what is judged, and granted, of what the code worked out
+module _ {s : ScopeFacts} {need : Need} {bad : Bool} {ks t : List ℕ} {l : List Entry} {m f : List ℕ} {c : Credential}
+    {request : ParsedRequest} {r : Request} (v : ServeRequires s need bad ks t l m f c request r) where
+  abbrev w : AdmitRequires s ks t l m f c request
+  w = v .admits
 
-      r-is : r ≡ y .req
-      r-is = p .numbers ∙ request-is
+  -- row 7 does not apply
+  pub high : row7 (S w) (y w .cred) (y w .req) ≡ false
+  high = level-is w ∙ rw (← v .numbers, ← v .needed) (v .level)
 
-      -- what the judge knows
-      pub judge-facts : FactsHold S s (partitionIn t) c (request .operation) r found place whole
-      unfolding placement partitionIn numbersOf
-      judge-facts = record {
-        marked = refl;
-        own = refl;
-        repeats = ap (row12 S c) (p .numbers) ∙ w .replayed;
-        entries = w .held;
-        number = sym (ap Request.operation (p .numbers));
-        named = p .named;
-        placed = p .placed;
-        whole = whole-is;
+  module _ {n whole : ℕ} {found : Lookup} {place : Option ℕ} (p : Prepared s t c r n whole found place) where
+    whole-is : whole ≡ replyLength r
+    unfolding replyLength
+    whole-is = p .reply ∙ ap (λ (i : ℕ). headSize + i + cond (r .level is 2) digestSize 0) (p .result)
+
+    r-is : r ≡ y w .req
+    r-is = v .numbers ∙ request-is w
+
+    -- what the judge knows
+    pub judge-facts : FactsHold (S w) s (partitionIn t) c need bad r (y w .payload) found place whole
+    unfolding placement partitionIn needOf
+    judge-facts = record {
+      marked = refl;
+      own = refl;
+      repeats = ap (row12 (S w) c) (v .numbers) ∙ w .replayed;
+      entries = w .held;
+      need = sym (v .needed);
+      load = sym (v .load);
+      named = p .named;
+      placed = p .placed;
+      whole = whole-is;
+    }
+
+    -- the grant
+    module _ (space : List ℕ) (first : firstRow (table w space) ≡ 0) where
+      named-y : found ≡ lookupIn ((S w) .partition .objects) (y w .cred .object)
+      unfolding partitionIn
+      named-y = p .named ∙ ap (λ (h : Credential). lookupIn (objectsIn t) (h .object)) (c-is w)
+
+      placed-y : place ≡ cond (y w .req .operation isnt 5) none (placement (S w) (y w .req .B))
+      unfolding placement partitionIn
+      placed-y = p .placed ∙ ap (placementFor (quarter (s .size)) (objectsIn t)) r-is
+
+      pub granted-given : {secret : List ℕ} → keyIn (keysIn ks) (c .partition) (c .slot) ≡ some secret
+          → (j : ℕ) → j ≡ keyIndex (c .slot) (c .partition)
+          → (k : GrantContext) → k ≡ grantContext (s .size) (partitionIn t) c found place
+          → (after replied : List ℕ) → after ≡ mediumAfter (request .operation) k (y w .payload) m
+          → (hash : Mac) → Keyed hash (credentialKey (keysIn ks) (y w)) (y w .credential ++ y w .request)
+          → replied ≡ replyPut hash r n (request .operation) k m space
+          → OutcomeMet (S w) m f space (request .operation)
+          (record { row = 0; length = whole; key = j; nextversion = k .nextversion; newstart = k .newstart }) after replied
+      unfolding granted
+      granted-given set j j-is k k-is after replied medium-e hash keyed reply-e = record {
+        row = ap Answer.row (sym (answer w space first));
+        length = whole-is ∙ ap replyLength r-is ∙ ap Answer.length (sym (answer w space first));
+        medium = medium-e ∙ ap (λ (o : Operation). mediumAfter o k (y w .payload) m) (sym (name-is w))
+            ∙ medium-is (operationOf (y w)) (S w) (y w) m k fits bytes ∙ ap Answer.medium (sym (answer w space first));
+        space = reply-e
+            ∙ ap (λ (o : Operation). replyPut hash r n o k m space) (sym (name-is w))
+            ∙ ap (λ (b : Request). replyPut hash b n (operationOf (y w)) k m space) r-is
+            ∙ reply-is (operationOf (y w)) (S w) (y w) m k fits bytes n n-is space room hash keyed ∙ ap Answer.space (sym (answer w space first));
+        set = λ z. set-is w set;
+        key = λ z. j-is ∙ ap (λ (h : Credential). keyIndex (h .slot) (h .partition)) (c-is w);
+        fits = λ z. changes;
       }
+        where
+          there : k ≡ grantContext (s .size) ((S w) .partition) (y w .cred) found place
+          there = k-is ∙ ap (λ (h : Credential). grantContext (s .size) (partitionIn t) h found place) (c-is w)
 
-      -- the grant
-      module _ (space : List ℕ) (first : firstRow (table space) ≡ 0) where
-        named-y : found ≡ lookupIn (S .partition .objects) (y .cred .object)
-        unfolding partitionIn
-        named-y = p .named ∙ ap (λ (h : Credential). lookupIn (objectsIn t) (h .object)) c-is
+          fits : ContextFits (operationOf (y w)) (S w) (y w .cred) k
+          fits = subst (ContextFits (operationOf (y w)) (S w) (y w .cred)) (sym there)
+              (context-fits (clear w space first) (w .sound) (s .size) refl m (w .size) named-y placed-y)
 
-        placed-y : place ≡ cond (y .req .operation isnt 5) none (placement S (y .req .B))
-        unfolding placement partitionIn
-        placed-y = p .placed ∙ ap (placementFor (quarter (s .size)) (objectsIn t)) r-is
+          bytes : BytesFit (operationOf (y w)) (S w) (y w) m
+          bytes = bytes-fit (clear w space first) (w .sound) (s .size) refl m (w .size)
 
-        pub granted-given : {secret : List ℕ} → keyIn (keysIn ks) (c .partition) (c .slot) ≡ some secret
-            → (j : ℕ) → j ≡ keyIndex (c .slot) (c .partition)
-            → (k : GrantContext) → k ≡ grantContext (s .size) (partitionIn t) c found place
-            → (after replied : List ℕ) → after ≡ mediumAfter (request .operation) k (y .payload) m
-            → (hash : Mac) → Keyed hash (credentialKey (keysIn ks) y) (y .credential ++ y .request)
-            → replied ≡ replyPut hash r n (request .operation) k m space
-            → OutcomeMet S m f space (request .operation)
-            (record { row = 0; length = whole; key = j; nextversion = k .nextversion; newstart = k .newstart }) after replied
-        unfolding granted
-        granted-given set j j-is k k-is after replied medium-e hash keyed reply-e = record {
-          row = ap Answer.row (sym (answer space first));
-          length = whole-is ∙ ap replyLength r-is ∙ ap Answer.length (sym (answer space first));
-          medium = medium-e ∙ ap (λ (o : Operation). mediumAfter o k (y .payload) m) (sym name-is)
-              ∙ medium-is (operationOf y) S y m k fits bytes ∙ ap Answer.medium (sym (answer space first));
-          space = reply-e
-              ∙ ap (λ (o : Operation). replyPut hash r n o k m space) (sym name-is)
-              ∙ ap (λ (b : Request). replyPut hash b n (operationOf y) k m space) r-is
-              ∙ reply-is (operationOf y) S y m k fits bytes n n-is space room hash keyed ∙ ap Answer.space (sym (answer space first));
-          set = λ z. set-is set;
-          key = λ z. j-is ∙ ap (λ (h : Credential). keyIndex (h .slot) (h .partition)) c-is;
-          fits = λ z. changes;
-        }
-          where
-            there : k ≡ grantContext (s .size) (S .partition) (y .cred) found place
-            there = k-is ∙ ap (λ (h : Credential). grantContext (s .size) (partitionIn t) h found place) c-is
+          long : n ≡ resultLength (y w .req)
+          long = p .result ∙ ap resultLength r-is
 
-            fits : ContextFits (operationOf y) S (y .cred) k
-            fits = subst (ContextFits (operationOf y) S (y .cred)) (sym there)
-                (context-fits (clear space first) (w .sound) (s .size) refl m (w .size) named-y placed-y)
+          n-is : n ≡ length (perform (operationOf (y w)) (S w) (y w) m .result)
+          n-is = long ∙ result-long (clear w space first) (w .sound) (s .size) refl m (w .size)
 
-            bytes : BytesFit (operationOf y) S y m
-            bytes = bytes-fit (clear space first) (w .sound) (s .size) refl m (w .size)
+          room : headSize + n + cond (y w .req .level is 2) digestSize 0 ≤ length space
+          room = rw long (reply-room (clear w space first) (w .sound) (s .size) refl m (w .size))
 
-            long : n ≡ resultLength (y .req)
-            long = p .result ∙ ap resultLength r-is
-
-            n-is : n ≡ length (perform (operationOf y) S y m .result)
-            n-is = long ∙ result-long (clear space first) (w .sound) (s .size) refl m (w .size)
-
-            room : headSize + n + cond (y .req .level is 2) digestSize 0 ≤ length space
-            room = rw long (reply-room (clear space first) (w .sound) (s .size) refl m (w .size))
-
-            changes : ChangeFits (request .operation) S (k .nextversion) (k .newstart)
-            changes = subst (λ (o : Operation). ChangeFits o S (k .nextversion) (k .newstart)) name-is
-                (subst (λ (h : GrantContext). ChangeFits (operationOf y) S (h .nextversion) (h .newstart)) (sym there)
-                (change-fits (clear space first) (w .sound) (s .size) refl m (w .size) named-y placed-y))
+          changes : ChangeFits (request .operation) (S w) (k .nextversion) (k .newstart)
+          changes = subst (λ (o : Operation). ChangeFits o (S w) (k .nextversion) (k .newstart)) (name-is w)
+              (subst (λ (h : GrantContext). ChangeFits (operationOf (y w)) (S w) (h .nextversion) (h .newstart)) (sym there)
+              (change-fits (clear w space first) (w .sound) (s .size) refl m (w .size) named-y placed-y))

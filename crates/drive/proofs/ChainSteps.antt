@@ -18,7 +18,7 @@ use Rattle.drive.proofs.Calls.{callsOf, chain-after, formatted}
 use Rattle.drive.proofs.Tables.{tables-length}
 
 -- a record has four partitions, whatever it holds
-four : (d : Drive) → length (view d .tables .partitions) ≡ 4
+pub four : (d : Drive) → length (view d .tables .partitions) ≡ 4
 unfolding view
 four d = length-map (tablesIn partitionCount (d .tables)) partitionView ∙ tables-length partitionCount (d .tables)
 

@@ -1,4 +1,4 @@
--- A frame that none of rows 2 to 7 refuses: its length, its partition, and its parts as slices of it.
+-- A frame that none of rows 2 to 6 refuses: its length, its partition, and its parts as slices of it.
 -- f: the frame. c, request: what its parse gave.
 use mathlib.Core.Path.{_≡_, refl, ap, _∙_}
 use mathlib.Core.Bool.{false}

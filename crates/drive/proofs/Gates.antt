@@ -1,4 +1,4 @@
--- The gate's answers in three steps: row 1, rows 2 to 7, and from row 8 on; and that each of the code's returns meets it.
+-- The gate's answers in three steps: row 1, rows 2 to 6, and from row 7 on; and that each of the code's returns meets it.
 use mathlib.Core.Path.{_≡_, refl, sym, ap, _∙_}
 use mathlib.Core.Bool.{Bool, true, false, cond}
 use mathlib.Core.List.{List, _++_}
@@ -43,7 +43,7 @@ module _ (d : rules.Drive) (m f : List ℕ) (clock : ℕ) (space : List ℕ) whe
       ∙ ap (λ (n : ℕ). refused n (afterRefusal n clock d) m space) r
 
   module _ (ready : row1 d m ≡ false) where
-    -- rows 2 to 7
+    -- rows 2 to 6
     pub gate-framed : (frameRow f ≡ 0 → ⊥) → gate d m c ≡ refused (frameRow f) (refresh clock d) m space
     gate-framed z =
         let r : firstRow (rows d m f clock space) ≡ frameRow f = by-frame d m f clock space ready z in
@@ -51,7 +51,7 @@ module _ (d : rules.Drive) (m f : List ℕ) (clock : ℕ) (space : List ℕ) whe
         ∙ ap (λ (e : rules.Drive). refused (firstRow (rows d m f clock space)) e m space) (ready-left d m c ready)
         ∙ ap (λ (n : ℕ). refused n (refresh clock d) m space) r
 
-    -- row 8 and on
+    -- row 7 and on
     pub gate-scope-answer : frameRow f ≡ 0 → gate d m c ≡ wholeAnswer (fields f .cred) (refresh clock d)
         (scopeAnswer (driveScope (refresh clock d) (fields f .cred)) m (fields f) space)
     unfolding scopeAnswer
@@ -83,7 +83,7 @@ pub frame-not-1 : (f : List ℕ) → frameRow f ≡ 1 → ⊥
 unfolding frameRow frameRows every
 frame-not-1 f e = eqb-false (frameRow f) 1 (row-isnt 1 (frameRows f (fields f)) refl refl) e
 
--- ---- from row 8 on: row 0 where no row applies, and a refusal leaves the drive
+-- ---- from row 7 on: row 0 where no row applies, and a refusal leaves the drive
 module _ (d : Scope Object) (m : List ℕ) (x : Fields) (space : List ℕ) where
   abbrev lowest : ℕ
   lowest = firstRow (driveRows d x space)

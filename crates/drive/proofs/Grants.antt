@@ -12,7 +12,7 @@ use Rattle.lemmas.specs.Tests.{_is_, _isnt_, and-rest-false}
 use Rattle.lemmas.specs.Parts.{length-part}
 use Rattle.rules.specs.declared.Object.{Object}
 use Rattle.rules.specs.declared.Operation.{Operation}
-use Rattle.rules.specs.declared.Operation.the-variants.{Read, Write, Look, Raise, Create, Delete, SetKey}
+use Rattle.rules.specs.declared.Operation.the-variants.{Read, Write, Look, Raise, Create, Delete, SetKey, LoadTable}
 use Rattle.rules.specs.Frame.{Fields, fields, digestSize, operation, operationOf}
 use Rattle.rules.specs.Drive.{quarter, lastVersion}
 use Rattle.rules.specs.Scope.{Scope}
@@ -34,7 +34,7 @@ use Rattle.rules.proofs.Holds.{quarter-in, Grant}
 use Rattle.rules.proofs.Sound.{SoundScope}
 use Rattle.rules.proofs.RepliesBack.{sound-named}
 use Rattle.rules.proofs.Shown.{result-length}
-use Rattle.rules.proofs.Clear.{Clear, asks-for, clear21, clear23, in-four, in-seven, in-object, read-moves, write-moves, grant}
+use Rattle.rules.proofs.Clear.{Clear, asks-for, clear21, clear23, in-four, known-operation, in-object, read-moves, write-moves, grant}
 use Rattle.wire.specs.declared.ParsedRequest.{ParsedRequest}
 use Rattle.wire.specs.Parse.{operationNumber, firstNumber, secondNumber, numbersOf}
 use Rattle.state.specs.declared.Lookup.{Lookup}
@@ -51,8 +51,8 @@ unfolding operation numbersOf
 numbers-operation request = go (request .operation)
   where
     go : (o : Operation) → getD (Look ∷ Read (firstNumber o) (secondNumber o) ∷ Write (firstNumber o) (secondNumber o)
-        ∷ Look ∷ Raise ∷ Create (firstNumber o) (secondNumber o) ∷ Delete ∷ SetKey (firstNumber o) ∷ [])
-        (operationNumber o) Look ≡ o
+        ∷ Look ∷ Raise ∷ Create (firstNumber o) (secondNumber o) ∷ Delete ∷ SetKey (firstNumber o)
+        ∷ LoadTable ∷ []) (operationNumber o) Look ≡ o
     go (Read a b) = refl
     go (Write a b) = refl
     go Look = refl
@@ -60,6 +60,7 @@ numbers-operation request = go (request .operation)
     go (Create number size) = refl
     go Delete = refl
     go (SetKey target) = refl
+    go LoadTable = refl
 
 module _ {f : List ℕ} {s : Scope Object} {space : List ℕ} (g : Clear f s space) (sound-s : SoundScope s) (M : ℕ)
     (q-is : s .quarter ≡ quarter M) (m : List ℕ) (size : length m ≡ M) where
@@ -88,7 +89,7 @@ module _ {f : List ℕ} {s : Scope Object} {space : List ℕ} (g : Clear f s spa
 
   -- the result is as long as the request calls for, and the reply has room
   pub result-long : resultLength (x .req) ≡ length (perform (operationOf x) s x m .result)
-  result-long = sym (result-length s x m (in-seven g .0) (in-seven g .1)
+  result-long = sym (result-length s x m (known-operation g .0) (known-operation g .1)
       (λ a b o. length-part m (extentStart s (x .cred) + a) b (bytes-fit .read a b o)))
 
   pub reply-room : headSize + resultLength (x .req) + cond (x .req .level is 2) digestSize 0 ≤ length space

@@ -18,12 +18,15 @@ use Rattle.drive.specs.Lent.{
   AllOfLentOnlyRepeats,
   AllOfLentPlaces,
   AllOfLentOnSteps,
+  AllOfLentTableMoves,
+  AllOfLentGoodReached,
 }
 use Rattle.drive.proofs.Demand1.{demand1}
 use Rattle.drive.proofs.Demand3.{demand3}
 use Rattle.drive.proofs.ChainStory.{story}
 use Rattle.drive.proofs.ChainRepeats.{only-repeats}
 use Rattle.drive.proofs.ChainSteps.{on-steps, places}
+use Rattle.drive.proofs.ChainTables.{good-reached, table-moves}
 
 lent-chain : (s : DriveState) (calls : List LentCall) → LentChain s calls → Chain s (map madeFrom calls)
 unfolding LentChain Chain
@@ -60,3 +63,10 @@ lent-places s c m = places s (madeFrom c) m
 pub lent-on-steps : AllOfLentOnSteps
 lent-on-steps medium F master key d zeroed calls made =
     on-steps medium F master key (formattedWith 0 d) zeroed (map madeFrom calls) (lent-made medium F master key d zeroed calls made)
+
+pub lent-table-moves : AllOfLentTableMoves
+lent-table-moves s c m = table-moves s (madeFrom c) m
+
+pub lent-good-reached : AllOfLentGoodReached
+lent-good-reached medium F master key d zeroed calls made =
+    good-reached medium F master key (formattedWith 0 d) zeroed (map madeFrom calls) (lent-made medium F master key d zeroed calls made)

@@ -1,5 +1,5 @@
 -- Laws of the rules that the code's proofs use; then the customer's demands 1 and 3, the customer's story, what row 12
--- answers and where new extents start over the code's own contracts.
+-- answers, where new extents start and which operation tables are reached, over the code's own contracts.
 mod Memories
 mod Tables
 pub mod Frames
@@ -15,4 +15,5 @@ pub mod Demand3
 pub mod ChainStory
 pub mod ChainRepeats
 pub mod ChainSteps
+pub mod ChainTables
 pub mod LentCalls

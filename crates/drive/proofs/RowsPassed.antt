@@ -1,4 +1,4 @@
--- The table of rows in two parts: rows 1 to 7, and from row 8 on.
+-- The table of rows in two parts: rows 1 to 6, and from row 7 on.
 use mathlib.Core.Path.{_≡_, refl, _∙_}
 use mathlib.Core.Bool.{false}
 use mathlib.Core.List.{List, _++_}
@@ -20,7 +20,7 @@ module _ (d : Drive) (m f : List ℕ) (clock : ℕ) (space : List ℕ) (ready : 
   unfolding rows
   skip = row-next (line 1 (row1 d m)) (frameRows f (fields f) ++ later) ready
 
-  -- none of rows 2 to 7 applies
+  -- none of rows 2 to 6 applies
   pub past-frame : frameRow f ≡ 0 → firstRow (rows d m f clock space) ≡ firstRow later
   unfolding frameRow frameRows every
   past-frame z = skip ∙ rows-passed (frameRows f (fields f)) later refl z

@@ -5,7 +5,7 @@ use mathlib.Core.List.{List, [], _∷_, _++_, map}
 use Prim.Native.Nat.{ℕ, _+_, _-_, _*_, _≤_, _<_}
 use native.Mathlib.Omega.{arith}
 use lib.Dec.{leb}
-use lib.ListN.{length, getD, drop, length-take, length-drop, List·getD-map}
+use lib.ListN.{length, getD, drop, length-take, length-drop}
 use borrow.Rule.Slice.PartMut.{midOf, putMid}
 use borrow.Author.Tests.{leb-true, eq-eqb}
 use Rattle.lemmas.specs.Tests.{_is_}
@@ -40,11 +40,11 @@ use Rattle.wire.specs.declared.ParsedRequest.{ParsedRequest}
 use Rattle.wire.specs.Parse.{numbersOf}
 use Rattle.keyring.specs.Keys.{partitionCount, keysIn}
 use Rattle.memory.specs.Memory.{memoryCount}
-use Rattle.state.specs.Padded.{padded}
 use Rattle.state.specs.Table.{countAt, tableSize, partitionIn, partitionView}
 use Rattle.state.specs.Places.{view-is}
 use Rattle.state.specs.Changes.{HasContent}
 use Rattle.judge.specs.declared.ScopeFacts.{ScopeFacts}
+use Rattle.rules.specs.Needs.{needsAt}
 use Rattle.partition.specs.Partition.{contentAfter}
 use Rattle.partition.specs.Applied.{applied-is}
 use Rattle.set_key.specs.Keys.{keysAfter}
@@ -56,7 +56,7 @@ use Rattle.drive.specs.View.{view, tablesIn, memoriesOf, objectsFit, Cou
 use Rattle.drive.specs.Admission.{scopeFrom, scopeAnswer, ParsedTo, AdmitRequires, OutcomeMet}
 use Rattle.drive.specs.Met.{callOf, GateMet}
 use Rattle.drive.proofs.Frames.{parsed-row, parsed-credential, partition-is, in-four, memory-is, in-five}
-use Rattle.drive.proofs.Tables.{tables-at, tables-put}
+use Rattle.drive.proofs.Tables.{map-at, tables-at, tables-length, tables-put}
 use Rattle.drive.proofs.Memories.{held-long}
 use Rattle.drive.proofs.Admitting.{memory-entered, memory-room, keys-performed, partition-performed}
 use Rattle.drive.proofs.Whole.{restored, update-to}
@@ -154,10 +154,12 @@ module _ (o : Opened) where
 
   -- ---- it is the frame's own scope of the drive
   own-partition : driveScope (view d) (x .cred) .partition ≡ partitionIn part
-  unfolding view partitionView padded
+  unfolding view
   own-partition =
       ap (λ (j : ℕ). getD (map partitionView (tablesIn partitionCount (d .tables))) j (emptyPartition 0)) (sym (partition-is (o .parsed)))
-      ∙ List·getD-map partitionView (tablesIn partitionCount (d .tables)) i [] ∙ ap partitionView part-is ∙ view-is part long-part count-fits
+      ∙ map-at partitionView (tablesIn partitionCount (d .tables)) i [] (emptyPartition 0)
+      (omega (arith, in-four (o .parsed), tables-length partitionCount (d .tables)))
+      ∙ ap partitionView part-is ∙ view-is part long-part count-fits
 
   own-memory : driveScope (view d) (x .cred) .memory ≡ mem
   unfolding view
@@ -256,7 +258,8 @@ module _ (o : Opened) where
 
       module _ (ks u : List ℕ) (keyed : ks ≡ keysAfter (o .request .operation) (out .key) (o .cred .slot) (o .cred .partition)
           (x .request ++ x .payload) (d .keys))
-          (became : HasContent part u (contentAfter (o .request .operation) (o .cred .object) (out .nextversion) (out .newstart) part))
+          (became : HasContent part u (contentAfter (o .request .operation) (o .cred .object) (out .nextversion) (out .newstart)
+          (needsAt (x .payload)) part))
           (nonce : Entry) (is-nonce : nonce ≡ entry (o .cred) (numbersOf (o .request))) (ns es ts : List ℕ)
           (entered : memoriesOf ns es ts ≡ update k (λ (old : List Entry). old ++ (nonce ∷ [])) all-memories) where
         abbrev back : Drive
@@ -286,7 +289,7 @@ module _ (o : Opened) where
             × (getD u countAt 0 ≤ mostObjects) × (length u ≡ tableSize)
         changed = applied-is part u (o .request .operation) scope x m (out .nextversion) (out .newstart) long-part count-fits refl
             (given .fits grant) (subst (λ (e : Credential). HasContent part u
-            (contentAfter (o .request .operation) (e .object) (out .nextversion) (out .newstart) part)) c-is became)
+            (contentAfter (o .request .operation) (e .object) (out .nextversion) (out .newstart) (needsAt (x .payload)) part)) c-is became)
 
         partitions-in : map partitionView (tablesIn partitionCount (putMid (tableSize * i) width (d .tables) u))
             ≡ update (x .cred .partition) (λ (old : rules.Partition Object). a .drive .partition)

@@ -3,7 +3,7 @@
 -- x: the frame's fields. s: the facts. ks: the keys. t: the partition's table. l: the memory's entries.
 -- m: the medium. f: the frame.
 use mathlib.Core.Path.{_≡_}
-use mathlib.Core.Bool.{true, cond}
+use mathlib.Core.Bool.{Bool, false, true, cond}
 use mathlib.Core.Option.{Option, some, Option·getD}
 use mathlib.Core.List.{List}
 use Prim.Native.Nat.{ℕ, _*_, _≤_}
@@ -13,20 +13,23 @@ use Rattle.lemmas.specs.RowTable.{firstRow}
 use Rattle.rules.specs.declared.Credential.{Credential}
 use Rattle.rules.specs.declared.Entry.{Entry}
 use Rattle.rules.specs.declared.Object.{Object}
+use Rattle.rules.specs.declared.Need.{Need}
 use Rattle.rules.specs.declared.Operation.{Operation}
+use Rattle.rules.specs.declared.Request.{Request}
 use Rattle.rules.specs.Frame.{Fields, fields}
 use Rattle.rules.specs.Drive as rules
 use Rattle.rules.specs.Drive.{quarter, largestMedium, mostEntries, soundPartition}
 use Rattle.rules.specs.Scope.{Scope}
 use Rattle.rules.specs.Operations.{keyIn, signing}
-use Rattle.rules.specs.Rows.{row12, driveRows}
+use Rattle.rules.specs.Needs.{needUnder}
+use Rattle.rules.specs.Rows.{driveRows, lowLevel, row12, row31}
 use Rattle.rules.specs.Gate.{Answer, refused, granted}
 use Rattle.wire.specs.declared.ParsedRequest.{ParsedRequest}
 use Rattle.wire.specs.declared.Parsed.the-variants.{Fields as Parsed·Fields}
 use Rattle.wire.specs.Parse.{answerOf, frameAnswer, numbersOf}
 use Rattle.keyring.specs.Keys.{keysSize, keysIn, keyIndex}
 use Rattle.state.specs.declared.Lookup.{Lookup}
-use Rattle.state.specs.Table.{tableSize, partitionIn}
+use Rattle.state.specs.Table.{needsIn, tableSize, partitionIn}
 use Rattle.judge.specs.declared.ScopeFacts.{ScopeFacts}
 use Rattle.judge.specs.Judge.{presentVersionIn}
 use Rattle.effect.specs.declared.GrantContext.{GrantContext}
@@ -44,7 +47,7 @@ scopeFrom s ks t l = record {
   memory = l;
 }
 
--- the answer to a frame that none of rows 1 to 7 refuses, of its scope, which has the new mark and no outlived entry
+-- the answer to a frame that none of rows 1 to 6 refuses, of its scope, which has the new mark and no outlived entry
 unfoldable pub scopeAnswer : Scope Object → List ℕ → Fields → List ℕ → Answer (Scope Object)
 scopeAnswer s m x space =
     let row = firstRow (driveRows s x space) in
@@ -80,6 +83,16 @@ pub record AdmitRequires (s : ScopeFacts) (ks t : List ℕ) (l : List Entry) (m 
   pub held : length l ≡ s .held
   pub keys : length ks ≡ keysSize
   pub table : length t ≡ tableSize
+
+-- what `serve` asks beside it: the request's numbers r, what the operation needs, which is no more than the level, and whether
+-- row 31 applies
+pub record ServeRequires (s : ScopeFacts) (need : Need) (bad : Bool) (ks t : List ℕ) (l : List Entry) (m f : List ℕ)
+    (c : Credential) (request : ParsedRequest) (r : Request) : Type 0 where
+  pub admits : AdmitRequires s ks t l m f c request
+  pub numbers : r ≡ numbersOf request
+  pub needed : need ≡ needUnder (needsIn t) (c .slot) (r .operation)
+  pub level : lowLevel need c r ≡ false
+  pub load : bad ≡ row31 r (fields f .payload)
 
 -- an outcome is the rules' answer to the frame f, of the scope s, the medium m and the reply space lent; and at a grant
 -- the key in the frame's slot is set and its index found, and the next version and the new extent's start are those that operation o puts

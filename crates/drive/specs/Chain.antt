@@ -2,8 +2,9 @@
 -- promises (`FormatMet`, `GateMet`), and of nothing else. Proved in proofs/: `demand1`, `demand3`.
 -- s: drive and medium. c: a call made. l: a ledger. M: the medium's size.
 use mathlib.Core.Path.{_≡_}
-use mathlib.Core.List.{[], _++_, _∷_, List, map}
-use Prim.Native.Nat.{_≤_, ℕ}
+use mathlib.Core.Logic.{_⊎_}
+use mathlib.Core.List.{[], _++_, _∷_, List, List·Memᴰ, map}
+use Prim.Native.Nat.{ℕ}
 use lib.ListN.{length}
 use Rattle.lemmas.specs.Lists.{part}
 use Rattle.lemmas.specs.RowTable.{firstRow}
@@ -13,7 +14,7 @@ use Rattle.rules.specs.declared.Operation.the-variants.{Read}
 use Rattle.rules.specs.Gate.{Call}
 use Rattle.rules.specs.Ledger.{bareScope, clocked, Fed, Ledger, ledger, ledgerScope, ledgerStart}
 use Rattle.rules.specs.Operations.{headSize}
-use Rattle.rules.specs.Rows.{bounds}
+use Rattle.rules.specs.Rows.{bounds, gateRows}
 use Rattle.drive.specs.declared.Drive.{Drive}
 use Rattle.drive.specs.declared.Answer.{Answer}
 use Rattle.drive.specs.declared.Formatted.{Formatted}
@@ -70,8 +71,8 @@ ledgerAfterCalls M l before = ledger M l (map fedBy before)
 
 -- ---- demand 1, of one call put to the drive and the medium s
 pub record Demand1 (s : DriveState) (c : CallMade) : Type 0 where
-  -- "gets a grant or one row number from document 01"
-  pub row : c .answer .row ≤ 23
+  -- "gets a grant or one row number from document 01"; document 02 adds its own
+  pub row : (c .answer .row ≡ 0) ⊎ List·Memᴰ (c .answer .row) gateRows
   -- "A refusal writes no byte of the reply space or the medium"
   pub length : (Granted c → ⊥) → c .answer .length ≡ 0
   pub space : (Granted c → ⊥) → c .space ≡ c .call .space
@@ -111,7 +112,7 @@ pub record Demand3 (M : ℕ) (s : DriveState) (l : Ledger) (calls : List CallMad
       → nonce (b .call) ≡ nonce (c .call) → ⊥
   -- "Each grant is within its credential's rights, expiry and .. range. It is under the key and .. the version
   -- that the format or earlier grants put there": rows 8–10 and 13–17, by the ledger before the call with the mark
-  -- that this call sets
+  -- that this call sets. Change 5 of document 02: "a grant keeps to the table that earlier grants loaded": row 7 as well
   pub kept : (before later : List CallMade) (c : CallMade)
       → calls ≡ before ++ (c ∷ later)
       → Granted c

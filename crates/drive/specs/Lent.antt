@@ -1,6 +1,7 @@
 -- A drive whose record the caller lends in parts: the record that they make; the gate's promise over it is `GateMet` of that
 -- record before and after. Demands 1 and 3, the story and the theorems beside them, of lists of such calls: proved in proofs/,
--- `lent-demand1`, `lent-demand3`, `lent-story`, `lent-only-repeats`, `lent-places`, `lent-on-steps`.
+-- `lent-demand1`, `lent-demand3`, `lent-story`, `lent-only-repeats`, `lent-places`, `lent-on-steps`, `lent-table-moves`,
+-- `lent-good-reached`.
 -- s: drive and medium. c: a lent call.
 use mathlib.Core.Path.{_≡_}
 use mathlib.Core.List.{[], _∷_, List, map}
@@ -19,6 +20,7 @@ use Rattle.drive.specs.Chain.{CallMade, Demand1, Demand3, DriveState}
 use Rattle.drive.specs.ChainStory.{Story}
 use Rattle.drive.specs.ChainRepeats.{OnlyRepeats}
 use Rattle.drive.specs.ChainSteps.{OnSteps, Places}
+use Rattle.drive.specs.ChainTables.{GoodReached, TableMoves}
 
 -- ---- parts
 -- the record that parts make: M, the mark, keys, tables, and the memories' lengths, entries and times
@@ -114,3 +116,11 @@ abbrev pub AllOfLentOnSteps : Type 0
 AllOfLentOnSteps =
     (medium : List ℕ) (F : ℕ) (master key : List ℕ) (d : Drive) (zeroed : List ℕ) (calls : List LentCall)
     → LentFromFormat medium F master key d zeroed calls → OnSteps (record { drive = d; medium = zeroed }) (map madeFrom calls)
+
+abbrev pub AllOfLentTableMoves : Type 0
+AllOfLentTableMoves = (s : DriveState) (c : LentCall) → LentMet s c → TableMoves s (madeFrom c)
+
+abbrev pub AllOfLentGoodReached : Type 0
+AllOfLentGoodReached =
+    (medium : List ℕ) (F : ℕ) (master key : List ℕ) (d : Drive) (zeroed : List ℕ) (calls : List LentCall)
+    → LentFromFormat medium F master key d zeroed calls → GoodReached (record { drive = d; medium = zeroed }) (map madeFrom calls)

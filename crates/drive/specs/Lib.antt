@@ -7,4 +7,5 @@ pub mod Chain
 pub mod ChainStory
 pub mod ChainRepeats
 pub mod ChainSteps
+pub mod ChainTables
 pub mod Lent

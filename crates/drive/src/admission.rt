@@ -1,4 +1,4 @@
-// Rows 8 to 23 and a grant, of what the frame can see of the drive.
+// Rows 7 to 23 and 31, and a grant, of what the frame can see of the drive.
 ghost use mathlib.Core.Path.{_≡_};
 ghost use mathlib.Core.Option.{Option·getD};
 ghost use mathlib.Core.List.{List, _++_};
@@ -10,14 +10,17 @@ ghost use Rattle.digest.specs.Hmac.{hmac};
 ghost use Rattle.digest.specs.Keyed.{Keyed};
 ghost use Rattle.rules.specs.Drive.{largestMedium};
 ghost use Rattle.rules.specs.Frame.{credentialSize, dataStart, fields, covered, memoryIndex};
-ghost use Rattle.rules.specs.Rows.{leastFrame};
+ghost use Rattle.rules.specs.Rows.{leastFrame, row31};
 ghost use Rattle.keyring.specs.Keys.{partitionCount};
 ghost use Rattle.placing.specs.Placing.{placeOption};
 ghost use Rattle.state.specs.Table.{tableSize, partitionIn};
 ghost use Rattle.set_key.specs.Keys.{keysAfter};
 ghost use Rattle.effect.specs.Effect.{mediumAfter};
+ghost use Rattle.state.specs.Changes.{ChangedTo};
+ghost use Rattle.partition.specs.Partition.{contentAfter};
+ghost use Rattle.rules.specs.Needs.{needsAt};
 ghost use Rattle.sealed_reply.specs.Reply.{replyPut};
-ghost use Rattle.drive.specs.Admission.{scopeFrom, grantContext, AdmitRequires, OutcomeMet};
+ghost use Rattle.drive.specs.Admission.{scopeFrom, grantContext, AdmitRequires, ServeRequires, OutcomeMet};
 use super::Outcome;
 use digest::mac;
 use digest::mac::Mac;
@@ -30,6 +33,7 @@ use placing::Place;
 use rules::Credential;
 use rules::DIGEST_SIZE;
 use rules::KEY_SIZE;
+use rules::Need;
 use rules::Operation;
 use rules::Request;
 use state::LAST;
@@ -142,8 +146,78 @@ fn refusal(row: u32) -> Outcome
     }
 }
 
-// Rows 8 to 23, or the grant: the reply and the medium; keys, table and memory are left to the caller. No digest is computed
-// for a frame that row 8 refuses.
+// Rows 8 to 23 and 31, or the grant: the reply and the medium. `need` is what the operation needs, `bad` row 31's test, `r` the
+// request's numbers. No digest is computed for a frame that row 8 refuses.
+fn serve(
+    facts: ScopeFacts,
+    need: Need,
+    bad: bool,
+    keys: &[u8],
+    table: &[u32],
+    medium: &mut [u8],
+    frame: &[u8],
+    reply: &mut [u8],
+    c: Credential,
+    request: ParsedRequest,
+    r: Request,
+) -> Outcome
+    requires { ⌜ ((l : List Entry) × ServeRequires facts need bad (now keys) (now table) l (now medium) (now frame) c request r) ⌝ }
+    ensures { λ out. ⌜ ((l : List Entry) → ServeRequires facts need bad (now (keys .entry)) (now (table .entry)) l (now (medium .entry)) (now (frame .entry)) c request r
+        → OutcomeMet (scopeFrom facts (now (keys .entry)) (now (table .entry)) l) (now (medium .entry)) (now (frame .entry)) (now (reply .entry))
+        (request .operation) out (now (medium .exit)) (now (reply .exit))) ⌝ }
+{
+    let j = keyring::key_index(c.slot, c.partition as usize);
+    if !keyring::is_set(keys, j) {
+        return refusal(8);
+    }
+    let from = KEY_SIZE * j;
+    let to = from + KEY_SIZE;
+    let hash = records_mac(&keys[from..to], frame);
+    if !is_signed(hash, frame, request.level) {
+        return refusal(9);
+    }
+    let o = request.operation;
+    let n = reply::result_length(r);
+    let length = reply::length_with(r, n);
+    let found = state::look_up(table, c.object);
+    let place = judge::placement(table, (facts.size / 4) as u32, r);
+    let row = judge::judge(
+        facts,
+        table,
+        c,
+        need,
+        bad,
+        r,
+        found,
+        place,
+        length,
+        reply.len(),
+    );
+    if row != 0 {
+        return refusal(row);
+    }
+    let context = grant_context(facts.size, table, c, found, place);
+    grant(hash, medium, frame, reply, r, n, o, context);
+    Outcome {
+        row: 0,
+        length: length as usize,
+        key: j,
+        nextversion: context.nextversion,
+        newstart: context.newstart,
+    }
+}
+
+// Row 31: whether a frame would load a table that is not good.
+fn loads_bad_table(frame: &[u8], r: Request) -> bool
+    requires { ⌜ length (now frame) ≡ leastFrame + fields (now frame) .req .n ⌝ }
+    ensures { λ b. ⌜ b ≡ row31 r (fields (now (frame .entry)) .payload) ⌝ }
+{
+    let end = frame.len() - DIGEST_SIZE;
+    judge::is_bad_load(r, &frame[DATA_START..end])
+}
+
+// Rows 7 to 23 and 31, or the grant: the reply and the medium; keys, table and memory are left to the caller. No digest is
+// computed for a frame that row 7 or 8 refuses.
 pub fn admit(
     facts: ScopeFacts,
     keys: &[u8],
@@ -159,35 +233,25 @@ pub fn admit(
         → OutcomeMet (scopeFrom facts (now (keys .entry)) (now (table .entry)) l) (now (medium .entry)) (now (frame .entry)) (now (reply .entry))
         (request .operation) r (now (medium .exit)) (now (reply .exit))) ⌝ }
 {
-    let j = keyring::key_index(c.slot, c.partition as usize);
-    if !keyring::is_set(keys, j) {
-        return refusal(8);
-    }
-    let from = KEY_SIZE * j;
-    let to = from + KEY_SIZE;
-    let hash = records_mac(&keys[from..to], frame);
-    if !is_signed(hash, frame, request.level) {
-        return refusal(9);
-    }
-    let o = request.operation;
     let r = wire::numbers(request);
-    let n = reply::result_length(r);
-    let length = reply::length_with(r, n);
-    let found = state::look_up(table, c.object);
-    let place = judge::placement(table, (facts.size / 4) as u32, r);
-    let row = judge::judge(facts, table, c, o, r, found, place, length, reply.len());
-    if row != 0 {
-        return refusal(row);
+    let need = judge::need_under(table, c.slot, r.operation);
+    if needs::low_level(need, c, r) {
+        return refusal(7);
     }
-    let context = grant_context(facts.size, table, c, found, place);
-    grant(hash, medium, frame, reply, r, n, o, context);
-    Outcome {
-        row: 0,
-        length: length as usize,
-        key: j,
-        nextversion: context.nextversion,
-        newstart: context.newstart,
-    }
+    let bad = loads_bad_table(frame, r);
+    serve(
+        facts,
+        need,
+        bad,
+        keys,
+        table,
+        medium,
+        frame,
+        reply,
+        c,
+        request,
+        r,
+    )
 }
 
 // The keys after a grant under key `j`.
@@ -205,5 +269,30 @@ pub fn change_keys(keys: &mut [u8], frame: &[u8], j: usize, c: Credential, reque
         c.slot,
         c.partition as usize,
         &frame[CREDENTIAL_SIZE..end],
+    );
+}
+
+// A partition's table after a grant of this outcome.
+pub fn change_table(
+    table: &mut [u32],
+    frame: &[u8],
+    out: Outcome,
+    c: Credential,
+    request: ParsedRequest,
+)
+    requires { ⌜ length (now frame) ≡ leastFrame + fields (now frame) .req .n ⌝ }
+    ensures { λ _. ⌜ ChangedTo (now (table .entry)) (now (table .exit))
+        (contentAfter (request .operation) (c .object) (out .nextversion) (out .newstart)
+        (needsAt (fields (now (frame .entry)) .payload)) (now (table .entry))) ⌝ }
+{
+    let o = request.operation;
+    let end = frame.len() - DIGEST_SIZE;
+    partition::apply(
+        table,
+        o,
+        c.object,
+        out.nextversion,
+        out.newstart,
+        &frame[DATA_START..end],
     );
 }

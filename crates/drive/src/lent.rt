@@ -80,14 +80,7 @@ fn put_frame(
         return Verdict { row, length };
     }
     admission::change_keys(keys, frame, out.key, c, request);
-    let o = request.operation;
-    partition::apply(
-        &mut tables[at..end],
-        o,
-        c.object,
-        out.nextversion,
-        out.newstart,
-    );
+    admission::change_table(&mut tables[at..end], frame, out, c, request);
     replay::enter(lengths, entries, times, k, nonce);
     Verdict { row, length }
 }

@@ -1,8 +1,9 @@
-// Replays a trace of formats, calls and objects put into the record against the drive, and prints for each record a line with what it left behind: row,
-// reply length, the whole reply space, a digest of the medium and of the 8 bytes behind it. tests/model/src/bin/library.rs
-// has the layouts of both. A record that does not fit the buffers, or is none, ends the output with the line `cut`.
+// Replays a trace against the drive, of formats, calls, and objects and needs put into the record, and prints for each record a
+// line with what it left behind: row, reply length, the whole reply space, a digest of the medium and of the 8 bytes behind it.
+// tests/model/src/bin/library.rs has the layouts of both. A record that does not fit the buffers, or is none, ends the output
+// with the line `cut`.
 //
-// `stdin` is the trace that `target/model/library 920 12 stdin stdout` writes (tests/model/build makes that program), and
+// `stdin` is the trace that `target/model/library 1162 20 stdin stdout` writes (tests/model/build makes that program), and
 // `stdout` is what it expects.
 ghost use mathlib.Core.Path.{_≡_};
 ghost use lib.ListN.{length};
@@ -31,6 +32,9 @@ const HEAD_SIZE: usize = 96;
 const TABLES: usize = drive::TABLES;
 
 const TABLE: usize = state::TABLE;
+
+// How many operations a partition has needs for, operation 1 being the first.
+const NEEDS: usize = state::LEASTS - state::MASKS;
 
 // The loop's state between two records: the drive, M, and how many bytes of output are not written yet.
 struct LoopState {
@@ -97,6 +101,30 @@ fn put_object(table: &mut [u32], head: &[u8]) {
     }
 }
 
+// Puts what the record's operation needs into a table.
+fn put_need(table: &mut [u32], head: &[u8]) {
+    let k = octets::number(head, 2, 1) as usize;
+    if k < 1 {
+        return;
+    }
+    if k > NEEDS {
+        return;
+    }
+    if table.len() == TABLE {
+        table[state::MASKS + (k - 1)] = four(head, 4);
+        table[state::LEASTS + (k - 1)] = four(head, 8);
+    }
+}
+
+// Puts the record's object or need into a table.
+fn put(table: &mut [u32], kind: u8, head: &[u8]) {
+    if kind == trace::OBJECT {
+        put_object(table, head);
+        return;
+    }
+    put_need(table, head);
+}
+
 // Whether a partition has a place for one object more; no partition over 3 has.
 fn has_place(tables: [u32; TABLES], partition: usize) -> bool {
     if partition > 3 {
@@ -107,17 +135,26 @@ fn has_place(tables: [u32; TABLES], partition: usize) -> bool {
     state::object_count(&tables[from..to]) < rules::MOST_OBJECTS
 }
 
-// What a record is: an object for which there is no place is none.
+// Whether a partition has a need for an operation; no partition over 3 has.
+fn has_need(partition: usize, operation: usize) -> bool {
+    (partition <= 3) & (operation >= 1) & (operation <= NEEDS)
+}
+
+// What a record is: an object for which there is no place is none, nor is a need that no partition has.
 fn kind_of(kind: u8, tables: [u32; TABLES], head: &[u8]) -> u8 {
     let p = octets::number(head, 1, 1) as usize;
+    let k = octets::number(head, 2, 1) as usize;
     if (kind == trace::OBJECT) & !has_place(tables, p) {
+        return trace::CUT;
+    }
+    if (kind == trace::NEED) & !has_need(p, k) {
         return trace::CUT;
     }
     kind
 }
 
-// The tables with the record's object.
-fn tables_with_object(tables: [u32; TABLES], head: &[u8]) -> [u32; TABLES] {
+// The tables with the record's object or need.
+fn tables_with(tables: [u32; TABLES], kind: u8, head: &[u8]) -> [u32; TABLES] {
     let mut t = tables;
     let p = octets::number(head, 1, 1) as usize;
     if p > 3 {
@@ -125,15 +162,15 @@ fn tables_with_object(tables: [u32; TABLES], head: &[u8]) -> [u32; TABLES] {
     }
     let from = TABLE * p;
     let to = from + TABLE;
-    put_object(&mut t[from..to], head);
+    put(&mut t[from..to], kind, head);
     t
 }
 
-// The drive with the record's object.
-fn with_object(d: Drive, head: &[u8]) -> Answer {
+// The drive with the record's object or need.
+fn drive_with(d: Drive, kind: u8, head: &[u8]) -> Answer {
     let mut drive = d;
     let old = drive.tables;
-    let tables = tables_with_object(old, head);
+    let tables = tables_with(old, kind, head);
     drive.tables = tables;
     Answer {
         row: 0,
@@ -142,7 +179,7 @@ fn with_object(d: Drive, head: &[u8]) -> Answer {
     }
 }
 
-// The record's own format, call or object.
+// The record's own format, call, object or need.
 fn answer(
     d: Drive,
     r: Record,
@@ -170,8 +207,8 @@ fn answer(
             drive,
         };
     }
-    if r.kind == trace::OBJECT {
-        return with_object(d, head);
+    if (r.kind == trace::OBJECT) | (r.kind == trace::NEED) {
+        return drive_with(d, r.kind, head);
     }
     let n = r.frame;
     let space = r.space;

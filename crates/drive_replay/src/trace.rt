@@ -5,16 +5,18 @@ ghost use lib.ListN.{length};
 ghost use Rattle.drive_replay.specs.Trace.{headSize, bufferSize, Fits};
 use libc::STDIN_FILENO;
 
-// What comes next in the input: a format, a call that fits the buffers, an object, nothing, or anything else.
+// What comes next in the input: a format, a call that fits the buffers, an object, a need, nothing, or anything else.
 pub const FORMAT: u8 = 1;
 
 pub const CALL: u8 = 2;
 
 pub const OBJECT: u8 = 3;
 
-pub const END: u8 = 4;
+pub const NEED: u8 = 4;
 
-pub const CUT: u8 = 5;
+pub const END: u8 = 5;
+
+pub const CUT: u8 = 6;
 
 // The largest frame, reply space and M, and the longest key.
 const SIZE_LIMIT: usize = 70000;
@@ -34,8 +36,8 @@ pub const KEY_AT: usize = 56;
 // The bytes behind the medium that are filled and printed with it.
 pub const BEHIND: usize = 8;
 
-// A record, with 0 for what its kind has not. `size` is M, for a call or an object that of the last format; `lent` is how
-// many bytes of the medium buffer are lent. An object's numbers stay in the head.
+// A record, with 0 for what its kind has not. `size` is M, for all but a format that of the last one; `lent` is how many bytes
+// of the medium buffer are lent. An object's numbers, and a need's, stay in the head.
 pub struct Record {
     pub kind: u8,
     pub fill: u8,
@@ -178,6 +180,10 @@ pub fn next(size: usize, head: &mut [u8], frame: &mut [u8]) -> Record
     }
     if head[0] == b'O' {
         let r = bare(OBJECT, size);
+        return fitting(r);
+    }
+    if head[0] == b'N' {
+        let r = bare(NEED, size);
         return fitting(r);
     }
     nothing(CUT)

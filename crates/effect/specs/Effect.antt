@@ -9,7 +9,7 @@ use Rattle.lemmas.specs.Tests.{_is_}
 use Rattle.lemmas.specs.Lists.{splice}
 use Rattle.rules.specs.Drive.{lastVersion}
 use Rattle.rules.specs.declared.Operation.{Operation}
-use Rattle.rules.specs.declared.Operation.the-variants.{Read, Write, Look, Raise, Create, Delete, SetKey}
+use Rattle.rules.specs.declared.Operation.the-variants.{Read, Write, Look, Raise, Create, Delete, SetKey, LoadTable}
 use Rattle.effect.specs.declared.GrantContext.{GrantContext}
 
 -- the next version, 0 after the last that there is
@@ -33,3 +33,4 @@ mediumAfter (Create number size) k bytes m =
     (splice m (k .quarterstart + k .newstart) (replicate size 0)) m
 mediumAfter Delete k bytes m = m
 mediumAfter (SetKey target) k bytes m = m
+mediumAfter LoadTable k bytes m = m

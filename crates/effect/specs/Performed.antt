@@ -8,7 +8,7 @@ use borrow.Author.Tests.{le-leb}
 use Rattle.rules.specs.declared.Credential.{Credential}
 use Rattle.rules.specs.declared.Object.{Object}
 use Rattle.rules.specs.declared.Operation.{Operation}
-use Rattle.rules.specs.declared.Operation.the-variants.{Read, Write, Look, Raise, Create, Delete, SetKey}
+use Rattle.rules.specs.declared.Operation.the-variants.{Read, Write, Look, Raise, Create, Delete, SetKey, LoadTable}
 use Rattle.rules.specs.Frame.{Fields}
 use Rattle.rules.specs.Scope.{Scope}
 use Rattle.rules.specs.Operations.{
@@ -62,3 +62,4 @@ medium-is (Create number size) s x m k w fit = rw (
 ) refl
 medium-is Delete s x m k w fit = refl
 medium-is (SetKey target) s x m k w fit = refl
+medium-is LoadTable s x m k w fit = refl

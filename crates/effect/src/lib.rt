@@ -47,5 +47,6 @@ pub fn update_medium(medium: &mut [u8], bytes: &[u8], o: Operation, context: Gra
         }
         Operation::Delete => {}
         Operation::SetKey { target: _ } => {}
+        Operation::LoadTable => {}
     }
 }

@@ -1,17 +1,22 @@
-// Rows 10 to 23 of document 01, judged of one partition's table and of what is known of the rest that a frame can see.
-// Every test is made whatever the others say; the lowest row that applies is the answer.
+// Rows 10 to 23, with row 31 after 21, judged of one partition's table and of what is known of the rest that a frame can see.
+// Every test is made whatever the others say; the first row that applies is the answer. And what a frame's operation needs, by
+// which rows 7 and 13 go.
 ghost use mathlib.Core.Path.{_≡_};
-ghost use Prim.Native.Nat.{_-_};
+ghost use mathlib.Core.Bool.{_&&_};
+ghost use mathlib.Core.List.{List};
+ghost use Prim.Native.Nat.{ℕ};
 ghost use lib.ListN.{getD};
 ghost use Rattle.lemmas.specs.RowTable.{firstRow};
+ghost use Rattle.lemmas.specs.Tests.{_under_};
 ghost use Rattle.lemmas.specs.Lists.{missing};
 ghost use Rattle.rules.specs.declared.Object.{Object};
 ghost use Rattle.rules.specs.Frame.{entry};
 ghost use Rattle.rules.specs.Scope.{Scope};
-ghost use Rattle.rules.specs.Rows.{untimely, bit, isTransfer, givesVersion, outOfRange, scopeRows};
-ghost use Rattle.state.specs.Table.{objectsIn, partitionIn};
+ghost use Rattle.rules.specs.Needs.{needUnder};
+ghost use Rattle.rules.specs.Rows.{untimely, isTransfer, givesVersion, outOfRange, row31, scopeRows};
+ghost use Rattle.state.specs.Table.{needsIn, objectsIn, partitionIn};
 ghost use Rattle.placing.specs.Placing.{placeOption};
-ghost use Rattle.wire.specs.Parse.{operationNumber, numbersOf};
+ghost use Rattle.wire.specs.Parse.{numbersOf};
 ghost use Rattle.judge.specs.Judge.{placementFor, presentVersionIn, timeRow, objectRow, roomRow, FactsHold};
 use lemmas::pick;
 use placing::Place;
@@ -21,10 +26,12 @@ use rules::Entry;
 use rules::LAST_VERSION;
 use rules::MOST_ENTRIES;
 use rules::MOST_OBJECTS;
-use rules::Operation;
+use rules::Need;
 use rules::Request;
 use rules::TIME_WINDOW;
+use state::LEASTS;
 use state::Lookup;
+use state::MASKS;
 use wire::ParsedRequest;
 
 // What a frame can see of a drive beside the keys and its own partition's table: M, the mark, and of its own replay memory,
@@ -79,32 +86,11 @@ fn is_untimely(mark: u64, time: u64) -> bool
     TIME_WINDOW < time - mark
 }
 
-// Row 13: whether the rights have the operation's bit.
-fn has_right(o: Operation, rights: u16) -> bool
-    ensures { λ r. ⌜ r ≡ bit (operationNumber o - 1) rights ⌝ }
+// Rows 10 to 13: expiry, time, nonce, rights.
+fn time_row(facts: ScopeFacts, need: Need, c: Credential, r: Request, rest: u32) -> u32
+    ensures { λ x. ⌜ x ≡ timeRow facts need c r rest ⌝ }
 {
-    match o {
-        Operation::Read {
-            offset: _,
-            length: _,
-        } => rights % 2 == 1,
-        Operation::Write {
-            offset: _,
-            length: _,
-        } => rights / 2 % 2 == 1,
-        Operation::Look => rights / 4 % 2 == 1,
-        Operation::Raise => rights / 8 % 2 == 1,
-        Operation::Create { number: _, size: _ } => rights / 16 % 2 == 1,
-        Operation::Delete => rights / 32 % 2 == 1,
-        Operation::SetKey { target: _ } => rights / 64 % 2 == 1,
-    }
-}
-
-// Rows 10 to 13: expiry, time, nonce, right.
-fn time_row(facts: ScopeFacts, c: Credential, o: Operation, r: Request, rest: u32) -> u32
-    ensures { λ x. ⌜ x ≡ timeRow facts c (operationNumber o) r rest ⌝ }
-{
-    let x = pick(!has_right(o, c.rights), 13, rest);
+    let x = pick(needs::lacks_right(need, c), 13, rest);
     let x = pick(facts.replayed, 12, x);
     let x = pick(is_untimely(facts.highwater, r.time), 11, x);
     pick(c.expiry < facts.highwater, 10, x)
@@ -125,6 +111,36 @@ fn number_at(table: &[u32], i: usize) -> u32
         return 0;
     }
     table[i]
+}
+
+// Whether operation k under a slot goes by its partition's table.
+fn goes_by_table(slot: u8, k: u8) -> bool
+    ensures { λ b. ⌜ b ≡ (slot under 3 && k under 8) ⌝ }
+{
+    (slot < 3) & (k < 8)
+}
+
+// What operation k needs under a slot, by its partition's table where that holds.
+pub fn need_under(table: &[u32], slot: u8, k: u8) -> Need
+    ensures { λ n. ⌜ n ≡ needUnder (needsIn (now (table .entry))) slot k ⌝ }
+{
+    if !goes_by_table(slot, k) {
+        return needs::default_need(k);
+    }
+    let i = needs::table_place(k as usize);
+    let mask = number_at(table, MASKS + i);
+    let least = number_at(table, LEASTS + i);
+    Need { mask, least }
+}
+
+// Row 31: whether operation 8 would load, from its data bytes, a table that is not good.
+pub fn is_bad_load(r: Request, bytes: &[u8]) -> bool
+    ensures { λ b. ⌜ b ≡ row31 r (now (bytes .entry)) ⌝ }
+{
+    if r.operation != 8 {
+        return false;
+    }
+    !needs::is_good(bytes)
 }
 
 // Whether an operation reads or writes an object's bytes.
@@ -161,15 +177,25 @@ fn object_row(c: Credential, r: Request, found: Lookup, version: u32, rest: u32)
     pick((c.object != 0) & found.missing, 14, x)
 }
 
-// Rows 18 to 23: number, objects, place, versions, memory, reply space; `length` is the reply's, `space` the room lent.
-fn room_row(table: &[u32], held: usize, r: Request, place: Place, length: u64, space: usize) -> u32
-    ensures { λ x. ⌜ x ≡ roomRow (partitionIn (now (table .entry))) held r (placeOption place) length space ⌝ }
+// Rows 18 to 21, 31, 22 and 23: number, objects, place, versions, operation table, memory, reply space; `bad` is row 31's
+// test, `length` is the reply's, `space` the room lent.
+fn room_row(
+    table: &[u32],
+    held: usize,
+    bad: bool,
+    r: Request,
+    place: Place,
+    length: u64,
+    space: usize,
+) -> u32
+    ensures { λ x. ⌜ x ≡ roomRow (partitionIn (now (table .entry))) held bad r (placeOption place) length space ⌝ }
 {
     let taken = state::look_up(table, r.A);
     let last = number_at(table, 1);
     let creates = r.operation == 5;
     let x = pick((space as u64) < length, 23, 0);
     let x = pick(held == MOST_ENTRIES, 22, x);
+    let x = pick(bad, 31, x);
     let x = pick(gives_version(r) & (last == LAST_VERSION), 21, x);
     let x = pick(creates & is_missing(place), 20, x);
     let x = pick(
@@ -180,25 +206,28 @@ fn room_row(table: &[u32], held: usize, r: Request, place: Place, length: u64, s
     pick(creates & !taken.missing, 18, x)
 }
 
-// The lowest of rows 10 to 23 that applies, or 0. `o` and `r` are the operation and the request's numbers, `found` is the
-// object that the credential names, `place` a new extent's, `length` the reply's length, `space` the room lent for it.
+// The first of rows 10 to 23, with 31 after 21, that applies, or 0. `need` is what the operation needs, `bad` row 31's test, `r`
+// the request's numbers, `found` the object that the credential names, `place` a new extent's, `length` the reply's length,
+// `space` the room lent for it.
 pub fn judge(
     facts: ScopeFacts,
     table: &[u32],
     c: Credential,
-    o: Operation,
+    need: Need,
+    bad: bool,
     r: Request,
     found: Lookup,
     place: Place,
     length: u64,
     space: usize,
 ) -> u32
-    ensures { λ x. ⌜ ((s : Scope Object) → FactsHold s facts (partitionIn (now (table .entry))) c o r found (placeOption place) length
-        → x ≡ firstRow (scopeRows s c r space)) ⌝ }
+    ensures { λ x. ⌜ ((s : Scope Object) (payload : List ℕ)
+        → FactsHold s facts (partitionIn (now (table .entry))) c need bad r payload found (placeOption place) length
+        → x ≡ firstRow (scopeRows s c r payload space)) ⌝ }
 {
     let version = number_at(table, 0);
     let present = present_version(version, c.object, found);
-    let x = room_row(table, facts.held, r, place, length, space);
+    let x = room_row(table, facts.held, bad, r, place, length, space);
     let x = object_row(c, r, found, present, x);
-    time_row(facts, c, o, r, x)
+    time_row(facts, need, c, r, x)
 }

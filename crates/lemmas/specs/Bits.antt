@@ -1,11 +1,12 @@
--- Numbers bit by bit: XOR is associative, and cheaper forms of a choice and of a majority.
-use mathlib.Core.Path.{_≡_, refl, subst}
-use Prim.Native.Nat.{ℕ, zero, suc, _-_, _*_, _/_, _%_, _^_, _<_}
+-- Numbers bit by bit: XOR is associative, cheaper forms of a choice and of a majority, when AND keeps all of a number.
+use mathlib.Core.Path.{_∙_, _≡_, ap, refl, subst, sym}
+use Prim.Native.Nat.{ℕ, zero, suc, _+_, _-_, _*_, _/_, _%_, _^_, _<_}
 use native.Mathlib.Nat.{pow-suc}
 use native.Mathlib.Decide.{decLt}
 use native.Mathlib.Omega.{arith}
 use lib.Arith.{bin-ind}
-use lib.Bits.{bitAnd, bitXor, and-mod, and-shr, and-zero-r, xor-mod, xor-shr, xor-zero-r}
+use lib.Bits.{bitAnd, bitXor, and-comm, and-high, and-mod, and-shr, and-step, and-zero-l, and-zero-r, xor-mod, xor-shr, xor-zero-r}
+use lib.Pow.{pow-add, shr-shr}
 
 -- a number is its half and its lowest bit
 same : (a b : ℕ) → a / 2 ≡ b / 2 → a % 2 ≡ b % 2 → a ≡ b
@@ -124,3 +125,27 @@ choice (suc k) x y z hx hz =
     )
     (by-bits (λ x y z. bitXor (bitAnd (bitXor y z) x) z ≡ bitXor (bitAnd x y) (bitAnd (1 - x) z))
     refl refl refl refl refl refl refl refl x y z))
+
+-- ---- AND keeps all of a exactly where each bit of a is one of b's too
+pub and-each : (a b : ℕ) → bitAnd a b ≡ a → (k : ℕ) → a / 2 ^ k % 2 ≡ 1 → b / 2 ^ k % 2 ≡ 1
+and-each a b e k h =
+    let all : bitAnd (a / 2 ^ k) (b / 2 ^ k) ≡ a / 2 ^ k = sym (and-shr a b k) ∙ ap (λ (n : ℕ). n / 2 ^ k) e in
+    omega (arith, and-step (a / 2 ^ k) (b / 2 ^ k))
+
+pub and-all : (a b : ℕ) → ((k : ℕ) → a / 2 ^ k % 2 ≡ 1 → b / 2 ^ k % 2 ≡ 1) → bitAnd a b ≡ a
+and-all =
+    bin-ind (λ (n : ℕ). (b : ℕ) → ((k : ℕ) → n / 2 ^ k % 2 ≡ 1 → b / 2 ^ k % 2 ≡ 1) → bitAnd n b ≡ n)
+    (λ b h. and-zero-l b)
+    (λ n ih b h.
+    let rest : bitAnd (n / 2) (b / 2) ≡ n / 2 = ih (b / 2) (λ k. rw (shr-shr n 1 k, shr-shr b 1 k) (h (1 + k))) in
+    elim (decLt (n % 2) 1) [
+      | yes z ↦ omega (arith, and-step n b)
+      | no z ↦ omega (arith, and-step n b, h 0 (omega arith))
+    ])
+
+-- and of one bit it keeps that bit of n
+pub and-bit : (k n : ℕ) → bitAnd (2 ^ k) n ≡ (n / 2 ^ k % 2) * 2 ^ k
+and-bit k n =
+    let p : 2 ^ (1 + k) ≡ 2 * 2 ^ k = pow-add 2 1 k in
+    let e : 2 ^ k ≡ 2 ^ (1 + k) - 2 ^ k = omega arith in
+    and-comm (2 ^ k) n ∙ ap (bitAnd n) e ∙ and-high n 1 k

@@ -2,7 +2,8 @@
 -- does.
 use mathlib.Core.Path.{_≡_, refl, sym, _∙_}
 use mathlib.Core.Bool.{Bool, true, false, not, _&&_, _||_, cond, false≢true}
-use mathlib.Core.List.{List, [], _∷_, _++_}
+use mathlib.Core.Logic.{_⊎_, inl, inr}
+use mathlib.Core.List.{List, [], _∷_, _++_, map, List·Memᴰ, List·Memᴰ·head, List·Memᴰ·tail}
 use Prim.Native.Nat.{ℕ, _≤_}
 use native.Mathlib.Decide.{ℕ-discrete}
 use native.Mathlib.Omega.{arith}
@@ -81,6 +82,18 @@ zero-clear (r ∷ rs) p h = go (r .applies) h (zero-clear rs (and-r (r .row isnt
     go false k ih = ih k
 
 -- the answer is a number of the table, or 0
+pub row-of : (rs : List Row) → (firstRow rs ≡ 0) ⊎ List·Memᴰ (firstRow rs) (map Row.row rs)
+unfolding firstRow
+row-of [] = inl refl
+row-of (r ∷ rs) = go (r .applies) (row-of rs)
+  where
+    go : (b : Bool) → (firstRow rs ≡ 0) ⊎ List·Memᴰ (firstRow rs) (map Row.row rs)
+        → (cond b (r .row) (firstRow rs) ≡ 0) ⊎ List·Memᴰ (cond b (r .row) (firstRow rs)) (r .row ∷ map Row.row rs)
+    go true ih = inr (List·Memᴰ·head refl)
+    go false (inl z) = inl z
+    go false (inr k) = inr (List·Memᴰ·tail k)
+
+-- so it is at most n where all of them are
 pub row-below : (n : ℕ) (rs : List Row) → every (λ (r : Row). leb (r .row) n) rs ≡ true → firstRow rs ≤ n
 unfolding every firstRow
 row-below n [] h = omega arith

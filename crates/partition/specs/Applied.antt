@@ -12,15 +12,17 @@ use Rattle.lemmas.specs.Tests.{_is_, _isnt_}
 use Rattle.lemmas.specs.Lists.{change}
 use Rattle.lemmas.specs.ListLaws.{length-keep, length-change}
 use Rattle.lemmas.specs.Fronts.{withFront}
+use Rattle.rules.specs.declared.Need.{Need}
 use Rattle.rules.specs.declared.Object.{Object}
 use Rattle.rules.specs.declared.Operation.{Operation}
-use Rattle.rules.specs.declared.Operation.the-variants.{Read, Write, Look, Raise, Create, Delete, SetKey}
+use Rattle.rules.specs.declared.Operation.the-variants.{Read, Write, Look, Raise, Create, Delete, SetKey, LoadTable}
 use Rattle.rules.specs.Frame.{Fields}
 use Rattle.rules.specs.Drive as rules
 use Rattle.rules.specs.Drive.{mostObjects}
+use Rattle.rules.specs.Needs.{needsAt}
 use Rattle.rules.specs.Scope.{Scope}
-use Rattle.rules.specs.Operations.{withVersion, nextVersion, placementStart, raised, created, deleted, perform}
-use Rattle.state.specs.Table.{countAt, lastAt, versionAt, tableSize, places, objectsIn, partitionIn}
+use Rattle.rules.specs.Operations.{withVersion, nextVersion, placementStart, raised, created, deleted, withNeeds, perform}
+use Rattle.state.specs.Table.{countAt, lastAt, versionAt, tableSize, places, objectsIn, needsIn, partitionIn}
 use Rattle.state.specs.Places.{objects-length, count-is}
 use Rattle.state.specs.Changes.{
   Content,
@@ -30,6 +32,7 @@ use Rattle.state.specs.Changes.{
   createdContent,
   otherObjects,
   deletedContent,
+  contentWithNeeds,
 }
 use Rattle.partition.specs.Partition.{contentAfter}
 
@@ -43,7 +46,8 @@ pub record ChangeFits (o : Operation) (s : Scope Object) (v start : ℕ) : Type 
 
 -- what a content is of a partition: as many objects as it counts
 abbrev inContent : Content → rules.Partition Object
-inContent c = record { version = c .version; last = c .last; objects = take (c .count) (c .objects) }
+inContent c =
+    record { version = c .version; last = c .last; needs = c .needs; objects = take (c .count) (c .objects) }
 
 content-partition : (t : List ℕ) → length t ≡ tableSize → partitionIn t ≡ inContent (contentOf t)
 unfolding partitionIn objectsIn
@@ -72,7 +76,12 @@ module _ (t : List ℕ) (l : length t ≡ tableSize) (fit : getD t countAt 0 ≤
   raised-in : (n : ℕ) → Tells (raisedContent n (nextVersion (partitionIn t)) t) (raised n (partitionIn t))
   unfolding raisedContent raised partitionIn
   raised-in n = (
-    ap (λ (os : List Object). record { version = cond (n is 0) v (getD t versionAt 0); last = v; objects = os }) (go (n is 0)),
+    ap (λ (os : List Object). record {
+      version = cond (n is 0) v (getD t versionAt 0);
+      last = v;
+      needs = needsIn t;
+      objects = os;
+    }) (go (n is 0)),
     fit,
   )
     where
@@ -106,10 +115,14 @@ module _ (t : List ℕ) (l : length t ≡ tableSize) (fit : getD t countAt 0 ≤
     omega (arith, length-keep (λ (a : Object). a .number isnt n) (objectsIn t), count-held),
   )
 
+  loaded-in : (needs : List Need) → Tells (contentWithNeeds needs t) (withNeeds needs (partitionIn t))
+  unfolding partitionIn
+  loaded-in needs = (rw all-held refl, fit)
+
   -- operation by operation
   content-in : (o : Operation) (s : Scope Object) (x : Fields) (m : List ℕ) (v start : ℕ)
       → s .partition ≡ partitionIn t → ChangeFits o s v start
-      → Tells (contentAfter o (x .cred .object) v start t) (perform o s x m .scope .partition)
+      → Tells (contentAfter o (x .cred .object) v start (needsAt (x .payload)) t) (perform o s x m .scope .partition)
   unfolding perform
   content-in (Read a b) s x m v start p w = rw p same-in
   content-in (Write a b) s x m v start p w = rw p same-in
@@ -121,11 +134,12 @@ module _ (t : List ℕ) (l : length t ≡ tableSize) (fit : getD t countAt 0 ≤
       (created-in number size _ (rw p at h))
   content-in Delete s x m v start p w = rw p (deleted-in (x .cred .object))
   content-in (SetKey target) s x m v start p w = rw p same-in
+  content-in LoadTable s x m v start p w = rw p (loaded-in (needsAt (x .payload)))
 
 -- the table of a scope's partition, after a granted operation
 pub applied-is : (t u : List ℕ) (o : Operation) (s : Scope Object) (x : Fields) (m : List ℕ) (v start : ℕ)
     → length t ≡ tableSize → getD t countAt 0 ≤ mostObjects → s .partition ≡ partitionIn t → ChangeFits o s v start
-    → HasContent t u (contentAfter o (x .cred .object) v start t)
+    → HasContent t u (contentAfter o (x .cred .object) v start (needsAt (x .payload)) t)
     → (partitionIn u ≡ perform o s x m .scope .partition) × (getD u countAt 0 ≤ mostObjects) × (length u ≡ tableSize)
 applied-is t u o s x m v start l fit p w b =
     let c = content-in t l fit o s x m v start p w in (

@@ -14,7 +14,7 @@ use Rattle.rules.specs.Drive.{refresh}
 use Rattle.rules.specs.Frame.{credentialAt, credentialBytes, CredentialFits, credentialSize, fields, requestAt}
 use Rattle.rules.specs.Gate.{gate}
 use Rattle.rules.specs.Operations.{credentialKey, resultLength}
-use Rattle.rules.specs.Rows.{row1, row8, row9, scopeRows}
+use Rattle.rules.specs.Rows.{row1, row7, row8, row9, scopeRows}
 use Rattle.rules.specs.Scope.{driveScope}
 use Rattle.rules.proofs.Demand2 as rules·proofs
 use Rattle.drive.specs.Chain.{CallMade, DriveState}
@@ -86,8 +86,9 @@ module _ (i : IssueMade) (m : IssueKept i) (z : i .answer .row ≡ 0) (fit : Cre
           g .row
           ∙ subst (λ (f : List ℕ). gate (view (s .drive)) (s .medium) (c .call) .row
           ≡ firstRow (line 1 (row1 (view (s .drive)) (s .medium))
+          ∷ line 7 (row7 (driveScope (refresh (c .call .clock) (view (s .drive))) (fields f .cred)) (fields f .cred) (fields f .req))
           ∷ scopeRows (driveScope (refresh (c .call .clock) (view (s .drive))) (fields f .cred)) (fields f .cred) (fields f .req)
-          (length (c .call .space))))
+          (fields f .payload) (length (c .call .space))))
           (sym frame-is) (authentic .row (view (s .drive)) (s .medium) (c .call) (h ∙ frame-is) e);
     }
 
@@ -95,10 +96,14 @@ module _ (i : IssueMade) (m : IssueKept i) (z : i .answer .row ≡ 0) (fit : Cre
 pub read-as-built : (b : BuildMade) → BuildKept b → b .answer .row ≡ 0 → ReadAsBuilt b
 read-as-built b n y = record {
   fields = ap fields (built-frame (b .credential) (b .request) (b .payload) (b .key) (b .space) (b .answer) (b .after) n y)
-      ∙ reads-back (b .credential) (b .request) (b .payload) (b .key) (b .space)
-      (built-accepted (b .credential) (b .request) (b .payload) (b .key) (b .space) (b .answer) (b .after) n y) .fields;
+      ∙ back .fields;
   parsed = built-parsed (b .credential) (b .request) (b .payload) (b .key) (b .space) (b .answer) (b .after) n y;
+  level = back .level;
 }
+  where
+    back : rules·demands.ReadsBack (b .credential) (b .request) (b .payload) (b .key) (b .space)
+    back = reads-back (b .credential) (b .request) (b .payload) (b .key) (b .space)
+        (built-accepted (b .credential) (b .request) (b .payload) (b .key) (b .space) (b .answer) (b .after) n y)
 
 -- ---- the reply check
 back-again : (o n : ℕ) → o + n - o ≡ n

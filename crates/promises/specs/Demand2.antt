@@ -18,7 +18,8 @@ use Rattle.rules.specs.Drive.{Keys, refresh}
 use Rattle.rules.specs.Frame.{covered, credentialAt, CredentialFits, fields, operationOf, requestAt}
 use Rattle.rules.specs.Gate as rules·gate
 use Rattle.rules.specs.Operations.{credentialKey, headSize, keyIn, perform, resultLength}
-use Rattle.rules.specs.Rows.{row1, row8, row9, rows, scopeRows}
+use Rattle.rules.specs.Needs.{defaultNeed}
+use Rattle.rules.specs.Rows.{lowLevel, row1, row7, row8, row9, rows, scopeRows}
 use Rattle.rules.specs.Scope.{driveScope, Scope}
 use Rattle.wire.specs.Parse.{fieldsOf, frameAnswer}
 use Rattle.drive.specs.Chain.{CallMade, CallMet, DriveState, Granted}
@@ -66,12 +67,15 @@ pub record BuiltFrom (i : IssueMade) (b : BuildMade) : Type 0 where
 pub record Passes (i : IssueMade) (b : BuildMade) : Type 0 where
   pub set : (t : Scope Object) → SlotHas (t .keys) i → row8 t (fields (builtBytes b) .cred) ≡ false
   pub digest : (t : Scope Object) → SlotHas (t .keys) i → row9 t (fields (builtBytes b)) ≡ false
-  -- and of such a drive it gets a grant, or the first that applies of row 1 and rows 10 to 23
+  -- and of such a drive it gets a grant, or the first that applies of row 1, of row 7 by the partition's table, and of those
+  -- from 10 on
   pub row : (s : DriveState) (c : CallMade) → CallMet s c → c .call .frame ≡ builtBytes b
       → SlotHas (view (s .drive) .tables .keys) i
       → c .answer .row ≡ firstRow (line 1 (row1 (view (s .drive)) (s .medium))
+      ∷ line 7 (row7 (driveScope (refresh (c .call .clock) (view (s .drive))) (fields (builtBytes b) .cred))
+      (fields (builtBytes b) .cred) (fields (builtBytes b) .req))
       ∷ scopeRows (driveScope (refresh (c .call .clock) (view (s .drive))) (fields (builtBytes b) .cred))
-      (fields (builtBytes b) .cred) (fields (builtBytes b) .req) (length (c .call .space)))
+      (fields (builtBytes b) .cred) (fields (builtBytes b) .req) (fields (builtBytes b) .payload) (length (c .call .space)))
 
 -- ---- "What the builder writes, the gate reads as the same fields."
 pub record ReadAsBuilt (b : BuildMade) : Type 0 where
@@ -83,8 +87,11 @@ pub record ReadAsBuilt (b : BuildMade) : Type 0 where
     payload = b .payload;
     digest = hmac (b .key) (covered (requestAt (b .request) 0 .level) (b .credential) (b .request) (b .payload));
   }
-  -- none of rows 2 to 7 refuses it: the gate's parse answers with these fields
+  -- none of rows 2 to 6 refuses it: the gate's parse answers with these fields;
   pub parsed : frameAnswer (builtBytes b) ≡ fieldsOf (credentialAt (b .credential) 0) (requestAt (b .request) 0)
+  -- nor row 7, where the operation needs what document 01's rule says
+  pub level : lowLevel (defaultNeed (requestAt (b .request) 0 .operation)) (credentialAt (b .credential) 0)
+      (requestAt (b .request) 0) ≡ false
 
 -- ---- the reply's way back: a granted frame's reply, checked with the records and the key that the frame was built
 -- from

@@ -1,6 +1,7 @@
-// Rows 3 to 7 of document 01 over a credential and a request, each a test with no branch.
+// Rows 3 to 6 of document 01 over a credential and a request, as change 5 of document 02 reads them, each a test with no
+// branch; and what the client end refuses of the two.
 ghost use mathlib.Core.Path.{_≡_};
-ghost use Rattle.rules.specs.Rows.{row3, row4, row6, row7, outsideCredential, outsideRequest, dataLength, wrongData};
+ghost use Rattle.rules.specs.Rows.{row3, row4, row6, outsideCredential, outsideRequest, dataLength, wrongData};
 ghost use Rattle.rules.specs.Client.{badRecords};
 ghost use Rattle.record_rows.specs.Refusals.{badCredential, wrongLength, recordRow};
 use lemmas::pick;
@@ -10,10 +11,12 @@ pub const CREDENTIAL_MAGIC: u16 = 0x4c43;
 
 pub const REQUEST_MAGIC: u16 = 0x4c52;
 
-// The most data that a frame carries, and the data that operation 7 carries.
+// The most data that a frame carries, and the data that operations 7 and 8 carry.
 const MOST_DATA: u32 = 1048576;
 
 const SEED_SIZE: u32 = 16;
+
+const TABLE_SIZE: u32 = needs::NEEDS_SIZE as u32;
 
 // Row 3.
 fn bad_magic(c: rules::Credential, r: rules::Request) -> bool
@@ -37,7 +40,7 @@ fn outside_credential(c: rules::Credential) -> bool
 fn outside_request(r: rules::Request) -> bool
     ensures { λ b. ⌜ b ≡ outsideRequest r ⌝ }
 {
-    (r.operation < 1) | (r.operation > 7) | (r.level > 2) | (r.n > MOST_DATA)
+    (r.operation < 1) | (r.operation > 8) | (r.level > 2) | (r.n > MOST_DATA)
 }
 
 fn outside(c: rules::Credential, r: rules::Request) -> bool
@@ -50,7 +53,8 @@ fn outside(c: rules::Credential, r: rules::Request) -> bool
 fn data_length(r: rules::Request) -> u32
     ensures { λ n. ⌜ n ≡ dataLength r ⌝ }
 {
-    let rest = pick(r.operation == 7, SEED_SIZE, 0);
+    let rest = pick(r.operation == 8, TABLE_SIZE, 0);
+    let rest = pick(r.operation == 7, SEED_SIZE, rest);
     pick(r.operation == 2, r.B, rest)
 }
 
@@ -79,6 +83,7 @@ fn misfit(c: rules::Credential, r: rules::Request) -> bool
     let create = op == 5;
     let delete = op == 6;
     let key = op == 7;
+    let load = op == 8;
     ((op < 7) & (slot > 1))
         | (key & ((slot < 2) | (c.version != 0)))
         | (((op == 1) | (op == 2) | delete) & none)
@@ -89,13 +94,7 @@ fn misfit(c: rules::Credential, r: rules::Request) -> bool
         | (key & (slot == 2) & (a > 1))
         | (key & (slot == 3) & (a > 3))
         | (key & (slot == 4) & (a > 0))
-}
-
-// Row 7.
-fn low_level(c: rules::Credential, r: rules::Request) -> bool
-    ensures { λ b. ⌜ b ≡ row7 c r ⌝ }
-{
-    (r.level < c.least) | ((r.level == 0) & (r.operation == 7))
+        | (load & ((slot != 2) | !none | (c.version != 0) | (a != 0) | (b != 0)))
 }
 
 // Whether a credential's own fields are refused, by row 3 or 4.
@@ -105,18 +104,18 @@ pub fn bad_credential(c: rules::Credential) -> bool
     (c.magic != CREDENTIAL_MAGIC) | outside_credential(c)
 }
 
-// The lowest of rows 3 to 7 that refuses credential and request in a frame of len bytes, or 0.
+// The lowest of rows 3 to 6 that refuses credential and request in a frame of len bytes, or 0.
 pub fn record_row(c: rules::Credential, r: rules::Request, len: usize) -> u32
     ensures { λ row. ⌜ row ≡ recordRow c r len ⌝ }
 {
-    let row = pick(low_level(c, r), 7, 0);
-    let row = pick(misfit(c, r), 6, row);
+    let row = pick(misfit(c, r), 6, 0);
     let row = pick(wrong_length(r, len), 5, row);
     let row = pick(outside(c, r), 4, row);
     pick(bad_magic(c, r), 3, row)
 }
 
-// Whether a credential and a request, each in bytes of its own, are refused: by a length, or by one of rows 3 to 7.
+// Whether a credential and a request, each in bytes of its own, are refused: by a length, or by one of rows 3 to 7, of
+// which the last goes by document 01's rule.
 pub fn bad_records(credential: &[u8], request: &[u8]) -> bool
     ensures { λ b. ⌜ b ≡ badRecords (now (credential .entry)) (now (request .entry)) ⌝ }
 {
@@ -125,5 +124,6 @@ pub fn bad_records(credential: &[u8], request: &[u8]) -> bool
     }
     let c = fields::credential_in(credential, 0);
     let r = fields::request_in(request, 0);
-    bad_magic(c, r) | outside(c, r) | wrong_data(r) | misfit(c, r) | low_level(c, r)
+    let n = needs::default_need(r.operation);
+    bad_magic(c, r) | outside(c, r) | wrong_data(r) | misfit(c, r) | needs::low_level(n, c, r)
 }

@@ -17,7 +17,7 @@ const LOOK_SIZE: u32 = 8;
 
 const VERSION_SIZE: u32 = 4;
 
-// How long the result is that a request calls for.
+// How long the result is that a request calls for; operations 2 and 6 to 8 have none.
 pub fn result_length(r: rules::Request) -> u32
     ensures { λ n. ⌜ n ≡ resultLength r ⌝ }
 {

@@ -13,7 +13,7 @@ use Rattle.lemmas.specs.BigEndian.{bigEndian, length-bigEndian}
 use Rattle.octets.specs.Numbers.{numberPut}
 use Rattle.rules.specs.declared.Object.{Object}
 use Rattle.rules.specs.declared.Operation.{Operation}
-use Rattle.rules.specs.declared.Operation.the-variants.{Read, Write, Look, Raise, Create, Delete, SetKey}
+use Rattle.rules.specs.declared.Operation.the-variants.{Read, Write, Look, Raise, Create, Delete, SetKey, LoadTable}
 use Rattle.rules.specs.Frame.{Fields}
 use Rattle.rules.specs.Scope.{Scope}
 use Rattle.rules.specs.Operations.{extentStart, presentVersion, sizeOf, nextVersion, perform, headSize}
@@ -52,3 +52,4 @@ result-is (Create number size) s x m k w fit r h =
     rw (w .created number size refl) (put-number r headSize (nextVersion (s .partition)) h)
 result-is Delete s x m k w fit r h = sym (splice-none r headSize)
 result-is (SetKey target) s x m k w fit r h = sym (splice-none r headSize)
+result-is LoadTable s x m k w fit r h = sym (splice-none r headSize)

@@ -9,7 +9,7 @@ use Rattle.lemmas.specs.Lists.{part, splice}
 use Rattle.octets.specs.Numbers.{numberPut}
 use Rattle.rules.specs.Operations.{headSize}
 use Rattle.rules.specs.declared.Operation.{Operation}
-use Rattle.rules.specs.declared.Operation.the-variants.{Read, Write, Look, Raise, Create, Delete, SetKey}
+use Rattle.rules.specs.declared.Operation.the-variants.{Read, Write, Look, Raise, Create, Delete, SetKey, LoadTable}
 use Rattle.effect.specs.declared.GrantContext.{GrantContext}
 use Rattle.effect.specs.Effect.{objectStart}
 
@@ -24,3 +24,4 @@ resultPut Raise k m r = numberPut r headSize 4 (k .nextversion)
 resultPut (Create number size) k m r = numberPut r headSize 4 (k .nextversion)
 resultPut Delete k m r = r
 resultPut (SetKey target) k m r = r
+resultPut LoadTable k m r = r

@@ -28,5 +28,6 @@ pub fn put_result(reply: &mut [u8], medium: &[u8], o: Operation, context: GrantC
         }
         Operation::Delete => {}
         Operation::SetKey { target: _ } => {}
+        Operation::LoadTable => {}
     }
 }

@@ -3,21 +3,20 @@
 use mathlib.Core.Path.{_∙_, _≡_, ap, refl, subst, sym}
 use mathlib.Core.Logic.{inl, inr}
 use mathlib.Core.Bool.{Bool, cond, false, true}
-use mathlib.Core.List.{[], _++_, List}
+use mathlib.Core.List.{[], _++_, List, map}
 use Prim.Native.Nat.{ℕ}
 use native.Mathlib.Decide.{ℕ-discrete}
 use native.Mathlib.Omega.{arith}
-use lib.Dec.{leb}
 use borrow.Author.Tests.{eq-eqb, ne-eqb}
 use lib.ListN.{List·getD-map}
 use Rattle.lemmas.specs.Lists.{every, keep}
-use Rattle.lemmas.specs.RowTable.{clear-zero, firstRow, line, numbered, Row, row-below, row-isnt, row-next, zero-clear}
+use Rattle.lemmas.specs.RowTable.{clear-zero, firstRow, line, numbered, Row, row-isnt, row-next, row-of, zero-clear}
 use Rattle.lemmas.specs.Tests.{_is_}
 use Rattle.rules.specs.Demands.{Demand1, Exact, MarkAndOutlived}
 use Rattle.rules.specs.Drive.{Drive, lives, newHighWater, refresh}
 use Rattle.rules.specs.Frame.{fields}
 use Rattle.rules.specs.Gate.{Answer, Call, gate, granted, afterRefusal, refused, wholeAnswer}
-use Rattle.rules.specs.Rows.{driveRows, scopeRows, frameRows, row1, rows}
+use Rattle.rules.specs.Rows.{driveRows, frameRows, gateRows, row1, rows, scopeRows}
 use Rattle.rules.specs.Scope.{driveScope}
 
 module _ (d : Drive) (m : List ℕ) (c : Call) where
@@ -50,9 +49,10 @@ module _ (d : Drive) (m : List ℕ) (c : Call) where
   unfolding rows frameRows driveRows scopeRows every
   numbers = refl
 
-  below : every (λ (r : Row). leb (r .row) 23) table ≡ true
-  unfolding rows frameRows driveRows scopeRows every
-  below = refl
+  -- the table's numbers, in order
+  pub in-order : map Row.row table ≡ gateRows
+  unfolding rows frameRows driveRows scopeRows
+  in-order = refl
 
   pub exact : Exact d m c
   exact = record {
@@ -95,7 +95,7 @@ module _ (d : Drive) (m : List ℕ) (c : Call) where
 
   pub demand1 : Demand1 d m c
   demand1 = record {
-    row = rw gate-row (row-below 23 table below);
+    row = rw (gate-row, sym in-order) (row-of table);
     length = λ e. ap Answer.length (gate-refused (λ z. e (gate-row ∙ z)));
     space = λ e. ap Answer.space (gate-refused (λ z. e (gate-row ∙ z)));
     medium = λ e. ap Answer.medium (gate-refused (λ z. e (gate-row ∙ z)));

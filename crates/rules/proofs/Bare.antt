@@ -4,7 +4,7 @@ use mathlib.Core.Path.{_∙_, _≡_, ap, refl, sym}
 use mathlib.Core.Bool.{Bool, cond, false, true}
 use mathlib.Core.Option.{none, Option, Option·getD, Option·map, some}
 use mathlib.Core.List.{List, List·Memᴰ, map}
-use Prim.Native.Nat.{_+_, ℕ}
+use Prim.Native.Nat.{ℕ}
 use lib.ListN.{List·getD-map}
 use Rattle.lemmas.specs.ListLaws.{change-map, change-map-same, find-map, found, keep-map, map-append, update-map}
 use Rattle.lemmas.specs.Lists.{change, find, missing}
@@ -14,7 +14,7 @@ use Rattle.rules.specs.declared.Entry.{Entry}
 use Rattle.rules.specs.declared.Object.{Object}
 use Rattle.rules.specs.Drive.{partitionWith, Partition, partitionAt, emptyPartition}
 use Rattle.rules.specs.declared.Operation.{Operation}
-use Rattle.rules.specs.declared.Operation.the-variants.{Create, Delete, Look, Raise, Read, SetKey, Write}
+use Rattle.rules.specs.declared.Operation.the-variants.{Create, Delete, LoadTable, Look, Raise, Read, SetKey, Write}
 use Rattle.rules.specs.Frame.{Fields}
 use Rattle.rules.specs.Ledger.{
   bare,
@@ -80,6 +80,7 @@ bare-after Raise s l x m = rw (bare-raised (x .cred .object) (s .partition)) ref
 bare-after (Create a b) s l x m = rw (bare-created a b (placementStart (bareScope s) b) (s .partition)) refl
 bare-after Delete s l x m = rw (bare-deleted (x .cred .object) (s .partition)) refl
 bare-after (SetKey a) s l x m = refl
+bare-after LoadTable s l x m = refl
 
 -- what a frame sees of the ledger without the bytes, beside any memory
 abbrev pub sees : ℕ → Ledger → List Entry → Credential → Scope Object

@@ -16,43 +16,10 @@ use Rattle.rules.specs.declared.Request.{Request}
 use Rattle.rules.specs.BestFit.{extentStep}
 use Rattle.rules.specs.Drive.{Drive, refresh, sound}
 use Rattle.rules.specs.declared.Operation.{Operation}
-use Rattle.rules.specs.declared.Operation.the-variants.{Create, Delete, Look, Raise, Read, SetKey, Write}
+use Rattle.rules.specs.declared.Operation.the-variants.{Create, Delete, LoadTable, Look, Raise, Read, SetKey, Write}
 use Rattle.rules.specs.Frame.{Fields, fields, memoryIndex, operation, operationOf, operations}
 use Rattle.rules.specs.Operations.{namedObject, objectOf, placement, presentVersion, placementStart}
-use Rattle.rules.specs.Rows.{
-  bounds,
-  credentialFaults,
-  dataLength,
-  driveRows,
-  scopeRows,
-  frameRows,
-  misfits,
-  isTransfer,
-  outsideCredential,
-  outsideRequest,
-  requestFaults,
-  row1,
-  row10,
-  row11,
-  row12,
-  row13,
-  row14,
-  row15,
-  row16,
-  row17,
-  row18,
-  row19,
-  row20,
-  row21,
-  row22,
-  row23,
-  row4,
-  row5,
-  row6,
-  row8,
-  row9,
-  rows,
-}
+use Rattle.rules.specs.Rows.{bounds, credentialFaults, dataLength, driveRows, frameRows, isTransfer, misfits, outsideCredential, outsideRequest, requestFaults, row1, row10, row11, row12, row13, row14, row15, row16, row17, row18, row19, row20, row21, row22, row23, row31, row4, row5, row6, row7, row8, row9, rows, scopeRows}
 use Rattle.rules.specs.Scope.{Scope, driveScope}
 use Rattle.rules.proofs.Holds.{CanWrite, Grant}
 use Rattle.rules.proofs.Placing.{placed}
@@ -79,12 +46,13 @@ module _ (x : Fields) (clear4 : row4 (x .cred) (x .req) ≡ false) where
 abbrev pub Asks : Request → Operation → Type 0
 Asks r (Read a b) = (r .operation ≡ 1) × (r .A ≡ a) × (r .B ≡ b)
 Asks r (Write a b) = (r .operation ≡ 2) × (r .A ≡ a) × (r .B ≡ b)
--- (a byte outside 1 to 7 is read as one)
-Asks r Look = 1 ≤ r .operation → r .operation ≤ 7 → r .operation ≡ 3
+-- (a byte outside 1 to 8 is read as one)
+Asks r Look = 1 ≤ r .operation → r .operation ≤ 8 → r .operation ≡ 3
 Asks r Raise = r .operation ≡ 4
 Asks r (Create a b) = (r .operation ≡ 5) × (r .A ≡ a) × (r .B ≡ b)
 Asks r Delete = r .operation ≡ 6
 Asks r (SetKey a) = (r .operation ≡ 7) × (r .A ≡ a)
+Asks r LoadTable = r .operation ≡ 8
 
 pub asks-for : (r : Request) (o : Operation) → operation r ≡ o → Asks r o
 unfolding operation
@@ -99,9 +67,10 @@ asks-for r o e = subst (Asks r) e (go (r .operation) refl)
     go (suc (suc (suc (suc (suc zero))))) h = (h, refl, refl)
     go (suc (suc (suc (suc (suc (suc zero)))))) h = h
     go (suc (suc (suc (suc (suc (suc (suc zero))))))) h = (h, refl)
-    go (suc (suc (suc (suc (suc (suc (suc (suc k)))))))) h = λ i j. absurd (omega arith)
+    go (suc (suc (suc (suc (suc (suc (suc (suc zero)))))))) h = h
+    go (suc (suc (suc (suc (suc (suc (suc (suc (suc k))))))))) h = λ i j. absurd (omega arith)
 
--- ---- a frame that no row refuses: rows 2 to 7 by its own bytes, rows 8 to 23 by what it sees of a drive
+-- ---- a frame that no row refuses: rows 2 to 6 by its own bytes, the others by what it sees of a drive
 pub record Clear (f : List ℕ) (s : Scope Object) (space : List ℕ) : Type 0 where
   pub frame : firstRow (frameRows f (fields f)) ≡ 0
   pub drive : firstRow (driveRows s (fields f) space) ≡ 0
@@ -173,23 +142,28 @@ module _ {f : List ℕ} {s : Scope Object} {space : List ℕ} (g : Clear f s spa
   unfolding driveRows scopeRows applies
   clear22 = by-drive 22
 
+  pub clear31 : row31 (x .req) (x .payload) ≡ false
+  unfolding driveRows scopeRows applies
+  clear31 = by-drive 31
+
   pub clear23 : row23 (x .req) (length space) ≡ false
   unfolding driveRows scopeRows applies
   clear23 = by-drive 23
 
-  -- rights, expiry, range, key and version are kept
+  -- rights, expiry, range, key and version are kept, and the operation table
   pub bound : firstRow (bounds s x) ≡ 0
   unfolding driveRows scopeRows applies bounds firstRow
   bound =
+      let h7 : row7 s (x .cred) (x .req) ≡ false = by-drive 7 in
       let h8 : row8 s (x .cred) ≡ false = by-drive 8 in
       let h9 : row9 s x ≡ false = by-drive 9 in
       let h10 : row10 s (x .cred) ≡ false = by-drive 10 in
-      let h13 : row13 (x .cred) (x .req) ≡ false = by-drive 13 in
+      let h13 : row13 s (x .cred) (x .req) ≡ false = by-drive 13 in
       let h14 : row14 s (x .cred) ≡ false = by-drive 14 in
       let h15 : row15 s (x .cred) (x .req) ≡ false = by-drive 15 in
       let h16 : row16 (x .cred) (x .req) ≡ false = by-drive 16 in
       let h17 : row17 s (x .cred) (x .req) ≡ false = by-drive 17 in
-      rw (h8, h9, h10, h13, h14, h15, h16, h17) refl
+      rw (h7, h8, h9, h10, h13, h14, h15, h16, h17) refl
 
   pub in-four : x .cred .partition < 4
   in-four = low-partition x clear4
@@ -197,12 +171,12 @@ module _ {f : List ℕ} {s : Scope Object} {space : List ℕ} (g : Clear f s spa
   pub in-five : memoryIndex (x .cred) < 5
   in-five = low-memory x clear4
 
-  pub in-seven : (1 ≤ x .req .operation) × (x .req .operation ≤ 7)
-  in-seven =
+  pub known-operation : (1 ≤ x .req .operation) × (x .req .operation ≤ 8)
+  known-operation =
       let h : outsideRequest (x .req) ≡ false =
       or-r (outsideCredential (x .cred)) (outsideRequest (x .req)) clear4 in (
         ltb-false (x .req .operation) 1 (none-of (requestFaults (x .req)) h 0),
-        ltb-false 7 (x .req .operation) (none-of (requestFaults (x .req)) h 1),
+        ltb-false 8 (x .req .operation) (none-of (requestFaults (x .req)) h 1),
       )
 
   -- an object, not 0, is there, and operations 1 to 6 name its version

@@ -2,7 +2,7 @@
 -- By the counters: each is the number of calls of its place and row, and every call has one of them.
 -- l: calls and their answers. a: one of them. ns: the counters from the one at i on.
 use mathlib.Core.Path.{_∙_, _≡_, ap, refl, subst, sym}
-use mathlib.Core.Logic.{inl, inr}
+use mathlib.Core.Logic.{_⊎_, inl, inr}
 use mathlib.Core.Bool.{_&&_, Bool, cond, false, true}
 use mathlib.Core.List.{[], _++_, _∷_, List, List·Memᴰ, List·Memᴰ·head, List·Memᴰ·tail, List·Memᴰ·not-nil, map}
 use Prim.Native.Nat.{_%_, _*_, _+_, _/_, _<_, _≤_, suc, zero, ℕ}
@@ -37,7 +37,7 @@ use Rattle.rules.specs.Report.{
   rowsOfPlace,
   sumOf,
 }
-use Rattle.rules.specs.Rows.{driveRows, frameRows, row1, row2, row3, row4, row5, row6, row7, rows}
+use Rattle.rules.specs.Rows.{driveRows, frameRows, gateRows, row1, row2, row3, row4, row5, row6, rows}
 use Rattle.rules.specs.Scope.{driveScope}
 use Rattle.rules.proofs.Answers.{demand1, gate-row}
 use Rattle.rules.proofs.Clear.{low-partition}
@@ -75,7 +75,6 @@ module _ (d : Drive) (m : List ℕ) (c : Call) where
   later =
       line 5 (row5 (x .req) (c .frame))
       ∷ line 6 (row6 (x .cred) (x .req))
-      ∷ line 7 (row7 (x .cred) (x .req))
       ∷ driveRows (driveScope (refresh (c .clock) d) (x .cred)) x (c .space)
 
   table-parted : gate d m c .row ≡ firstRow (early ++ later)
@@ -101,11 +100,15 @@ countable a = leb (countsUnder a) none && (a .row under rowsOfPlace)
 
 pub one-countable : (s : State) (c : Call)
     → countable (record { frame = c .frame; row = answer s c .row; length = answer s c .length }) ≡ true
-unfolding countsUnder answer
+unfolding countsUnder answer every
 one-countable s c =
     both
     (le-leb (placeOf (answer s c .row) (fields (c .frame) .cred .partition)) none (place-low (s .drive) (s .medium) c))
-    (lt-ltb (answer s c .row) rowsOfPlace (omega (arith, demand1 (s .drive) (s .medium) c .row)))
+    (of-the-report (demand1 (s .drive) (s .medium) c .row))
+  where
+    of-the-report : (answer s c .row ≡ 0) ⊎ List·Memᴰ (answer s c .row) gateRows → (answer s c .row under rowsOfPlace) ≡ true
+    of-the-report (inl z) = lt-ltb (answer s c .row) rowsOfPlace (omega (arith, z))
+    of-the-report (inr k) = every-member (λ (n : ℕ). n under rowsOfPlace) gateRows (answer s c .row) refl k
 
 pub all-countable : (s : State) (calls : List Call) → every countable (answered s calls) ≡ true
 unfolding answered every

@@ -33,7 +33,7 @@ use Rattle.rules.specs.Frame.{fields}
 use Rattle.rules.specs.Gate.{Call}
 use Rattle.rules.specs.Ledger.{bare, LedgerObject, Ledger, ledger, ledgerStart, tablesOf}
 use Rattle.rules.specs.Operations.{namedObject, objectOf, presentVersion}
-use Rattle.rules.specs.Rows.{bounds, row10, row14, row15, row17, row8, row9}
+use Rattle.rules.specs.Rows.{bounds, needOf, row10, row13, row14, row15, row17, row7, row8, row9}
 use Rattle.rules.specs.Scope.{Scope}
 use Rattle.rules.proofs.Clear.{bound}
 use Rattle.rules.proofs.Holds.{quarter-below}
@@ -184,7 +184,7 @@ agree {M} {s} {l} v = record {
 -- ---- demand 3, from any state and ledger of which the invariant holds
 demand : {M : ℕ} {s : State} {l : Ledger} → Invariant M s l → (calls : List Call) → Demand3 M s l calls
 -- (the rows that the ledger judges do not look at the replay memory)
-unfolding bounds row8 row9 row10 row14 row15 row17 namedObject objectOf presentVersion
+unfolding bounds needOf row7 row8 row9 row10 row13 row14 row15 row17 namedObject objectOf presentVersion
 demand {M} {s} {l} v calls = record {
   noRepeat = λ before between later c d e gc gd same.
       let u = run-inv v before in

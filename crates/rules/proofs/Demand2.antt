@@ -32,7 +32,7 @@ use Rattle.rules.specs.Frame.{
 }
 use Rattle.rules.specs.Gate.{Call, gate}
 use Rattle.rules.specs.Operations.{credentialKey, digestOf, keyIn, signing}
-use Rattle.rules.specs.Rows.{driveRows, frameRows, leastFrame, row1, row8, row9, rows, scopeRows}
+use Rattle.rules.specs.Rows.{driveRows, frameRows, leastFrame, row1, row7, row8, row9, rows, scopeRows}
 use Rattle.rules.specs.Scope.{driveScope, Scope}
 use Rattle.rules.proofs.Answers.{exact, gate-row}
 use Rattle.rules.proofs.RepliesBack.{replies-back}
@@ -121,23 +121,28 @@ module _ (c : Credential) (k s b p room : List ℕ) (fit : CredentialFits c) (z 
   unfolding frameOf
   digest t e = passes-9 (credentialBytes c) b p (issue c k s .key) room no-row t (issues-back c k s fit z .key (t .keys) _ e)
 
-  -- rows 2 to 9 are passed over
+  -- rows 2 to 6, 8 and 9 are passed over
   passed : (d : Drive) (clock : ℕ) (space : List ℕ) → keyIn (d .tables .keys) (c .partition) (c .slot) ≡ some k
       → firstRow (frameRows frame (fields frame) ++ driveRows (driveScope (refresh clock d) (fields frame .cred)) (fields frame) space)
-      ≡ firstRow (scopeRows (driveScope (refresh clock d) (fields frame .cred)) (fields frame .cred) (fields frame .req) (length space))
-  unfolding driveRows frameRows every refresh
+      ≡ firstRow (line 7 (row7 (driveScope (refresh clock d) (fields frame .cred)) (fields frame .cred) (fields frame .req))
+      ∷ scopeRows (driveScope (refresh clock d) (fields frame .cred)) (fields frame .cred) (fields frame .req)
+      (fields frame .payload) (length space))
+  unfolding driveRows firstRow frameRows every refresh
   passed d clock space e =
       let x : Fields = fields frame in
       let t : Scope Object = driveScope (refresh clock d) (x .cred) in
-      let later : List Row = scopeRows t (x .cred) (x .req) (length space) in
+      let later : List Row = scopeRows t (x .cred) (x .req) (x .payload) (length space) in
       rows-passed (frameRows frame x) (driveRows t x space) refl
       (reads-back (credentialBytes c) b p (issue c k s .key) room no-row .accepted)
-      ∙ row-next (line 8 (row8 t (x .cred))) (line 9 (row9 t x) ∷ later) (set t e)
-      ∙ row-next (line 9 (row9 t x)) later (digest t e)
+      ∙ ap (cond (row7 t (x .cred) (x .req)) 7)
+      (row-next (line 8 (row8 t (x .cred))) (line 9 (row9 t x) ∷ later) (set t e)
+      ∙ row-next (line 9 (row9 t x)) later (digest t e))
 
   row : (d : Drive) (m : List ℕ) (call : Call) → call .frame ≡ frame → keyIn (d .tables .keys) (c .partition) (c .slot) ≡ some k
-      → gate d m call .row ≡ firstRow (line 1 (row1 d m) ∷ scopeRows (driveScope (refresh (call .clock) d) (fields frame .cred))
-      (fields frame .cred) (fields frame .req) (length (call .space)))
+      → gate d m call .row ≡ firstRow (line 1 (row1 d m)
+      ∷ line 7 (row7 (driveScope (refresh (call .clock) d) (fields frame .cred)) (fields frame .cred) (fields frame .req))
+      ∷ scopeRows (driveScope (refresh (call .clock) d) (fields frame .cred)) (fields frame .cred) (fields frame .req)
+      (fields frame .payload) (length (call .space)))
   unfolding rows firstRow
   row d m call h e =
       gate-row d m call

@@ -20,7 +20,7 @@ use Rattle.rules.specs.declared.Entry.{Entry}
 use Rattle.rules.specs.declared.Object.{Object}
 use Rattle.rules.specs.Drive.{apart, Keys, Partition, partitionAt, quarter, soundPartition}
 use Rattle.rules.specs.declared.Operation.{Operation}
-use Rattle.rules.specs.declared.Operation.the-variants.{Create, Delete, Look, Raise, Read, SetKey, Write}
+use Rattle.rules.specs.declared.Operation.the-variants.{Create, Delete, LoadTable, Look, Raise, Read, SetKey, Write}
 use Rattle.rules.specs.Frame.{Fields}
 use Rattle.rules.specs.Ledger.{bare, bareScope, ledgerDeleted, LedgerObject, ledgerWithVersion, ledgerCreated, Ledger, ledgerPerform, ledgerScope, numberOf, ledgerRaised, tablesOf, ledgerWritten, withBytesWritten}
 use Rattle.rules.specs.Operations.{extentStart, keySet, namedObject, nextVersion, objectOf, perform, placement, placementStart}
@@ -316,6 +316,9 @@ module _ {M : ℕ} {m : List ℕ} {l : Ledger} (g : Consistent M m l) where
   bytes-after (Create a b) es x c = create-bytes es x a b (c .partition) (c .creates a b refl)
   bytes-after Delete es x c = delete-bytes x (c .partition)
   bytes-after (SetKey a) es x c = same-bytes x (c .partition) (keySet a x (l .keys))
+  bytes-after LoadTable es x c =
+      bytes-at x (ledgerPerform LoadTable (ledgerScope M l (x .cred)) x) m (c .partition) (g .bytes (x .cred .partition))
+      (still (x .cred .partition))
 
   size-after : (o : Operation) (es : List Entry) (x : Fields) → Grant o (sees M l es (x .cred)) x
       → length (perform o (sees M l es (x .cred)) x m .medium) ≡ M
@@ -349,6 +352,7 @@ module _ {M : ℕ} {m : List ℕ} {l : Ledger} (g : Consistent M m l) where
       ∙ g .size
   size-after Delete es x c = g .size
   size-after (SetKey a) es x c = g .size
+  size-after LoadTable es x c = g .size
 
   sound-after : (o : Operation) (es : List Entry) (x : Fields) → Grant o (sees M l es (x .cred)) x
       → SoundTables (quarter M) (tablesOf (after o x))

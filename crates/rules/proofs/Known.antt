@@ -11,7 +11,7 @@ use lib.ListN.{getD, length, List·getD-map}
 use borrow.Author.Tests.{ltb-false}
 use Rattle.lemmas.specs.ListLaws.{nth-update, nth-update-other, some-keep}
 use Rattle.lemmas.specs.Lists.{keep, some?, update}
-use Rattle.lemmas.specs.Tests.{_is_, _under_, or-l}
+use Rattle.lemmas.specs.Tests.{_under_, or-l}
 use Rattle.rules.specs.declared.Entry.{Entry}
 use Rattle.rules.specs.declared.Object.{Object}
 use Rattle.rules.specs.Demands.{answer, callOperation, Nonce, nonce, State, step}

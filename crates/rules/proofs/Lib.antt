@@ -1,6 +1,7 @@
 -- The theorems over document 01's definitions: demand 1 (`Answers`), demand 2 (`RoundTrip`, `RepliesBack`), demand 3
 -- (`Demand`), the placing rule (`Placing`), the customer's story (`OneLog`, `OpensNothing`); and over document 02's: the
--- shift report (`Counts`), the two heads (`TwoHeads`), the sixteen-byte steps (`Steps`). The other files lead to these.
+-- shift report (`Counts`), the two heads (`TwoHeads`), the sixteen-byte steps (`Steps`), the operation table
+-- (`OperationTable`). The other files lead to these.
 pub mod Answers
 -- the placing rule
 pub mod Gaps
@@ -35,3 +36,5 @@ pub mod Counts
 pub mod TwoHeads
 -- the sixteen-byte steps
 pub mod Steps
+-- the operation table
+pub mod OperationTable

@@ -14,7 +14,7 @@ use Rattle.lemmas.specs.Lists.{change, find, missing, splice}
 use Rattle.lemmas.specs.Tests.{_is_}
 use Rattle.rules.specs.Drive.{Partition}
 use Rattle.rules.specs.declared.Operation.{Operation}
-use Rattle.rules.specs.declared.Operation.the-variants.{Create, Delete, Look, Raise, Read, SetKey, Write}
+use Rattle.rules.specs.declared.Operation.the-variants.{Create, Delete, LoadTable, Look, Raise, Read, SetKey, Write}
 use Rattle.rules.specs.Frame.{Fields}
 use Rattle.rules.specs.Ledger.{
   bareScope,
@@ -109,6 +109,7 @@ module _ (M : ℕ) (x : Fields) (l : Ledger) (p : Partition LedgerObject) where
   last-rises (Create a b) = omega arith
   last-rises Delete = omega arith
   last-rises (SetKey a) = omega arith
+  last-rises LoadTable = omega arith
 
   pub last-next : (o : Operation) (n : ℕ) → Giving o x n → partitionAfter o M x l p .last ≡ p .last + 1
   unfolding ledgerPerform ledgerRaised ledgerCreated
@@ -124,6 +125,7 @@ module _ (M : ℕ) (x : Fields) (l : Ledger) (p : Partition LedgerObject) where
   last-same (Create a b) h = absurd (h a (inr (b, refl)))
   last-same Delete h = refl
   last-same (SetKey a) h = refl
+  last-same LoadTable h = refl
 
   -- ---- what is raised or created has the next version
   pub given-next : (o : Operation) (n : ℕ) → CanRenew o x p → Giving o x n
@@ -206,6 +208,7 @@ module _ (M : ℕ) (x : Fields) (l : Ledger) (p : Partition LedgerObject) where
       go (yes e) = inl (inr (refl, e))
       go (no e) = inr (same-version n (of-found (find-kept numberOf (x .cred .object) n e (p .objects))))
   renewed-or-same (SetKey a) n = inr refl
+  renewed-or-same LoadTable n = inr refl
 
 -- ---- bytes
 abbrev pub bytesIn : Partition LedgerObject → ℕ → List ℕ
@@ -254,3 +257,4 @@ bytes-same M x l p (Create a b) n r w =
 bytes-same M x l p Delete n r w =
     found-bytes (find-kept numberOf (x .cred .object) n (λ e. r (inr (refl, e))) (p .objects))
 bytes-same M x l p (SetKey a) n r w = refl
+bytes-same M x l p LoadTable n r w = refl

@@ -44,7 +44,7 @@ use Rattle.rules.specs.Operations.{
 use Rattle.rules.specs.Rows.{isTransfer, rows}
 use Rattle.rules.specs.Scope.{Scope, driveScope}
 use Rattle.rules.proofs.Answers.{gate-granted, gate-row}
-use Rattle.rules.proofs.Clear.{asks-for, Clear, cleared, in-four, in-object, in-seven, is-sound, read-moves, size-is, there}
+use Rattle.rules.proofs.Clear.{asks-for, Clear, cleared, in-four, in-object, known-operation, is-sound, read-moves, size-is, there}
 use Rattle.rules.proofs.Holds.{quarter-in}
 use Rattle.rules.proofs.Keeps.{small-of, tables-of}
 use Rattle.rules.proofs.RoundTrip.{built-fields, key-long, parts, records}
@@ -149,7 +149,7 @@ module _
 
     length-res : length res ≡ resultLength (y .req)
     length-res =
-        result-length u y m (in-seven ok .0) (in-seven ok .1)
+        result-length u y m (known-operation ok .0) (known-operation ok .1)
         (λ a b o. let k = asks-for (y .req) (Read a b) o in
         length-part m (extentStart u (y .cred) + a) b (omega (arith, k .1, k .2, fits (read-moves ok o))))
 

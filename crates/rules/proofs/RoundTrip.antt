@@ -173,7 +173,7 @@ module _ (credential request payload key space : List ℕ)
         eq-eqb (length f) (leastFrame + r .n)
             (length-frame ∙ ap (λ (n : ℕ). leastFrame + n) n-is),
       ) refl in
-      rw (h2, fault 2, fault 3, h5, fault 5, fault 6) refl
+      rw (h2, fault 2, fault 3, h5, fault 5) refl
 
   written : builtFrame (build credential request payload key space) ≡ f
   unfolding build splice
@@ -185,5 +185,6 @@ module _ (credential request payload key space : List ℕ)
   reads-back = record {
     frame = written;
     accepted = rw built-fields no-row;
+    level = fault 6;
     fields = built-fields;
   }

@@ -18,7 +18,7 @@ use Rattle.digest.specs.Hmac.{hmac}
 use Rattle.digest.specs.DigestLaws.{length-hmac}
 use Rattle.rules.specs.Drive.{Keys, Partition, partitionAt, quarter}
 use Rattle.rules.specs.declared.Operation.{Operation}
-use Rattle.rules.specs.declared.Operation.the-variants.{Create, Delete, Look, Raise, Read, SetKey, Write}
+use Rattle.rules.specs.declared.Operation.the-variants.{Create, Delete, LoadTable, Look, Raise, Read, SetKey, Write}
 use Rattle.rules.specs.Frame.{Fields, fields, operationOf}
 use Rattle.rules.specs.Gate.{Call, granted}
 use Rattle.rules.specs.Ledger.{clocked, LedgerObject, Ledger, numberOf}
@@ -37,7 +37,7 @@ use Rattle.rules.specs.Operations.{
 }
 use Rattle.rules.specs.Scope.{Scope, driveScope}
 use Rattle.rules.proofs.Bare.{sees, the-ledger-object, the-object}
-use Rattle.rules.proofs.Clear.{Asks, asks-for, in-object, in-seven, read-moves, there}
+use Rattle.rules.proofs.Clear.{Asks, asks-for, in-object, known-operation, read-moves, there}
 use Rattle.rules.proofs.Holds.{Consistent, inside}
 use Rattle.rules.proofs.Step.{answer-granted, clear-of, fresh, fresh-inv, Invariant, row-zero, rowOf, sees-is}
 
@@ -130,7 +130,7 @@ length-sealed k x r = go (x .req .level is 2)
     go true = length-hmac (credentialKey k x) (x .credential ++ (x .request ++ headed (x .req) r))
     go false = refl
 
-pub result-length : (s : Scope Object) (x : Fields) (m : List ℕ) → 1 ≤ x .req .operation → x .req .operation ≤ 7
+pub result-length : (s : Scope Object) (x : Fields) (m : List ℕ) → 1 ≤ x .req .operation → x .req .operation ≤ 8
     → ((a b : ℕ) → operationOf x ≡ Read a b → length (piece s x m a b) ≡ b)
     → length (perform (operationOf x) s x m .result) ≡ resultLength (x .req)
 unfolding perform bigEndian
@@ -147,6 +147,7 @@ result-length s x m low high h = go (operationOf x) (asks-for (x .req) (operatio
     go (Create a b) k h = rw (k .0) refl
     go Delete k h = rw k refl
     go (SetKey a) k h = rw (k .0) refl
+    go LoadTable k h = rw k refl
 
 pub reply-length : (k : Keys) (x : Fields) (r : List ℕ)
     → length r ≡ resultLength (x .req) → length (reply k x r) ≡ replyLength (x .req)
@@ -162,7 +163,7 @@ answer-length {M} {s} {l} v c r =
     ap (λ a. a .length) (answer-granted v c e)
     ∙ sym (reply-length (fresh s c .tables .keys) (fields (c .frame)) _
     (result-length (driveScope (fresh s c) (fields (c .frame) .cred)) (fields (c .frame)) (s .medium)
-    (in-seven (clear-of v c e) .0) (in-seven (clear-of v c e) .1)
+    (known-operation (clear-of v c e) .0) (known-operation (clear-of v c e) .1)
     (λ a b o. read-piece v c r a b o .1)))
   where
     e : rowOf s c ≡ 0

@@ -1,5 +1,5 @@
 -- A grant leaves sound partitions sound.
-use mathlib.Core.Path.{_≡_, ap, refl, subst}
+use mathlib.Core.Path.{_∙_, _≡_, ap, refl, subst, sym}
 use mathlib.Core.Logic.{_⊎_, inl, inr}
 use mathlib.Core.Bool.{_||_, Bool, cond, false, true}
 use mathlib.Core.List.{[], _∷_, List, List·Memᴰ, List·Memᴰ·not-nil, map}
@@ -43,7 +43,7 @@ use Rattle.rules.specs.Drive.{
   emptyPartition,
 }
 use Rattle.rules.specs.declared.Operation.{Operation}
-use Rattle.rules.specs.declared.Operation.the-variants.{Create, Delete, Look, Raise, Read, SetKey, Write}
+use Rattle.rules.specs.declared.Operation.the-variants.{Create, Delete, LoadTable, Look, Raise, Read, SetKey, Write}
 use Rattle.rules.specs.Frame.{Fields}
 use Rattle.rules.specs.Operations.{created, deleted, nextVersion, perform, raised, placementStart, withVersion}
 use Rattle.rules.specs.Scope.{withScope, Scope}
@@ -160,7 +160,7 @@ raised-sound q n p h = partition-sound q (raised n p) (go (n is 0))
     same a b false false = refl
 
     go : (b : Bool) → SoundPartition q (partitionWith (cond b v (p .version)) v
-        (cond b (p .objects) (map f (p .objects))) p)
+        (cond b (p .objects) (map f (p .objects))) (raised n p))
     go true = record { count = s .count; each = later q (p .last) v (p .objects) (omega arith) (s .each); pair = s .pair }
     go false = record {
       count = rw length-map (s .count);
@@ -229,7 +229,7 @@ SoundScope s = soundPartition (s .quarter) (s .partition) ≡ true
 pub scope-sound : (o : Operation) (s : Scope Object) (x : Fields) (m : List ℕ) → SoundScope s
     → ((number size : ℕ) → o ≡ Create number size → CanCreate s number size)
     → soundPartition (s .quarter) (perform o s x m .scope .partition) ≡ true
-unfolding perform
+unfolding perform soundPartition
 scope-sound (Read a b) s x m h c = h
 scope-sound (Write a b) s x m h c = h
 scope-sound Look s x m h c = h
@@ -240,6 +240,7 @@ scope-sound (Create a b) s x m h c =
     (k .number-one) (k .size-one) (k .free) (k .room) (k .place)
 scope-sound Delete s x m h c = deleted-sound (s .quarter) (x .cred .object) (s .partition) h
 scope-sound (SetKey a) s x m h c = h
+scope-sound LoadTable s x m h c = h
 
 -- ---- all partitions
 abbrev pub SoundTables : ℕ → Tables Object → Type 0
@@ -274,23 +275,33 @@ pub with-scope-there : {A : Type 0} (c : Credential) (s : Scope A) (t : Tables A
 with-scope-there {A} c s t r e =
     nth-update-other (c .partition) r (λ (old : Partition A). s .partition) (t .partitions) (emptyPartition 0) e
 
--- an object of a partition, where one was put back: of the new one, or it was there before
+-- a partition, where one was put back: the new one, or as it was before
+pub with-scope-either : {A : Type 0} (c : Credential) (s : Scope A) (t : Tables A) (r : ℕ)
+    → ((r ≡ c .partition) × (partitionAt (withScope c s t) r ≡ s .partition))
+    ⊎ (partitionAt (withScope c s t) r ≡ partitionAt t r)
+with-scope-either {A} c s t r = go (ℕ-discrete r (c .partition)) (decLt r (length (t .partitions)))
+  where
+    go : Dec (r ≡ c .partition) → Dec (r < length (t .partitions))
+        → ((r ≡ c .partition) × (partitionAt (withScope c s t) r ≡ s .partition))
+        ⊎ (partitionAt (withScope c s t) r ≡ partitionAt t r)
+    go (no e) f = inr (with-scope-there c s t r e)
+    go (yes e) (yes f) = inl (
+      e,
+      ap (partitionAt (withScope c s t)) e ∙ with-scope-here c s t (subst (λ (n : ℕ). n < length (t .partitions)) e f),
+    )
+    go (yes e) (no f) = inr (
+        List·getD-eq-default (withScope c s t .partitions) (emptyPartition 0) {n = r}
+        (omega (arith, length-update (c .partition) (λ (old : Partition A). s .partition) (t .partitions)))
+        ∙ sym (List·getD-eq-default (t .partitions) (emptyPartition 0) {n = r} (omega arith)))
+
+-- so are its objects
 pub with-scope-has : {A : Type 0} (c : Credential) (s : Scope A) (t : Tables A) (r : ℕ) (a : A)
     → List·Memᴰ a (partitionAt (withScope c s t) r .objects)
     → ((r ≡ c .partition) × List·Memᴰ a (s .partition .objects)) ⊎ List·Memᴰ a (partitionAt t r .objects)
-with-scope-has {A} c s t r a k = go (ℕ-discrete r (c .partition)) (decLt (c .partition) (length (t .partitions)))
+with-scope-has {A} c s t r a k = go (with-scope-either c s t r)
   where
-    put : Partition A → Partition A
-    put old = s .partition
-
-    go : Dec (r ≡ c .partition) → Dec (c .partition < length (t .partitions))
+    go : ((r ≡ c .partition) × (partitionAt (withScope c s t) r ≡ s .partition))
+        ⊎ (partitionAt (withScope c s t) r ≡ partitionAt t r)
         → ((r ≡ c .partition) × List·Memᴰ a (s .partition .objects)) ⊎ List·Memᴰ a (partitionAt t r .objects)
-    go (no e) f = inr (subst (λ (p : Partition A). List·Memᴰ a (p .objects)) (with-scope-there c s t r e) k)
-    go (yes e) (yes f) = inl (
-      e,
-      subst (λ (p : Partition A). List·Memᴰ a (p .objects)) (with-scope-here c s t f)
-          (subst (λ (n : ℕ). List·Memᴰ a (partitionAt (withScope c s t) n .objects)) e k),
-    )
-    go (yes e) (no f) = absurd (List·Memᴰ·not-nil (subst (λ (p : Partition A). List·Memᴰ a (p .objects))
-        (List·getD-eq-default (withScope c s t .partitions) (emptyPartition 0) {n = r}
-        (omega (arith, e, length-update (c .partition) put (t .partitions)))) k))
+    go (inl e) = inl (e .0, subst (λ (p : Partition A). List·Memᴰ a (p .objects)) (e .1) k)
+    go (inr e) = inr (subst (λ (p : Partition A). List·Memᴰ a (p .objects)) e k)

@@ -10,7 +10,7 @@ use borrow.Author.Tests.{eq-eqb, le-leb, ne-eqb}
 use Rattle.lemmas.specs.ListLaws.{length-update}
 use Rattle.lemmas.specs.Lists.{every, keep}
 use Rattle.lemmas.specs.RowTable.{firstRow}
-use Rattle.lemmas.specs.Tests.{_is_, both}
+use Rattle.lemmas.specs.Tests.{both}
 use Rattle.rules.specs.declared.Entry.{Entry}
 use Rattle.rules.specs.declared.Object.{Object}
 use Rattle.rules.specs.Demands.{answer, callOperation, State, step}

@@ -17,7 +17,7 @@ use Rattle.lemmas.specs.RowTable.{answer-applies, firstRow, line, Row, row-here
 use Rattle.lemmas.specs.Tests.{_is_, _isnt_, and-l, and-r, bool-cases, both, by-branches, or-intro-l, or-intro-r, or-only}
 use Rattle.rules.specs.declared.Object.{Object}
 use Rattle.rules.specs.declared.Operation.{Operation}
-use Rattle.rules.specs.declared.Operation.the-variants.{Create, Delete, Look, Raise, Read, SetKey, Write}
+use Rattle.rules.specs.declared.Operation.the-variants.{Create, Delete, LoadTable, Look, Raise, Read, SetKey, Write}
 use Rattle.rules.specs.BestFit.{bestFit, Chosen, extentStep, Multiple, NoGap}
 use Rattle.rules.specs.Demands.{after, answer, callOperation, Has, State, step}
 use Rattle.rules.specs.Drive.{Drive, emptyPartition, format, formatRows, Formatted, Partition, partitionAt, quarter, refresh, sound}
@@ -203,6 +203,7 @@ after-operation (Create number size) s x m a k = go (List·Memᴰ·append-cases 
 after-operation Delete s x m a k =
     was (member-keep (λ (b : Object). b .number isnt x .cred .object) (s .partition .objects) a k)
 after-operation (SetKey i) s x m a k = was k
+after-operation LoadTable s x m a k = was k
 
 -- after a call
 after-call : (s : State) (c : Call) (p : ℕ) (a : Object) → Has (step s c) p a

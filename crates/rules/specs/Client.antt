@@ -19,8 +19,9 @@ use Rattle.rules.specs.Frame.{
   requestAt,
   requestSize,
 }
+use Rattle.rules.specs.Needs.{defaultNeed}
 use Rattle.rules.specs.Operations.{head, headSize, reply, replyCovered, replyLength, resultLength}
-use Rattle.rules.specs.Rows.{leastFrame, outsideCredential, row3, row4, row6, row7, wrongData}
+use Rattle.rules.specs.Rows.{leastFrame, lowLevel, outsideCredential, row3, row4, row6, wrongData}
 
 -- 26. "a key lent is not 32 bytes"
 abbrev pub row26 : List ℕ → Bool
@@ -48,7 +49,8 @@ issue c key space =
     (record { row = 0; key = hmac key (credentialBytes c); space = splice space 0 (credentialBytes c) })
     (record { row = row; key = replicate keySize 0; space = space })
 
--- ---- 28. builder and reply check: "a record not 36 or 28 bytes long, or one of rows 3–7 met by the records"
+-- ---- 28. builder and reply check: "a record not 36 or 28 bytes long, or one of rows 3–7 met by the records".
+-- Change 5 of document 02: "row 7 at the client end" keeps "document 01's rule, operation 8 treated as 7"
 abbrev pub recordFaults : List ℕ → List ℕ → List Bool
 recordFaults credential request =
     let c = credentialAt credential 0 in
@@ -59,7 +61,7 @@ recordFaults credential request =
     ∷ row4 c r
     ∷ wrongData r
     ∷ row6 c r
-    ∷ row7 c r
+    ∷ lowLevel (defaultNeed (r .operation)) c r
     ∷ []
 
 unfoldable pub badRecords : List ℕ → List ℕ → Bool

@@ -15,6 +15,7 @@ use Rattle.rules.specs.declared.Entry.{Entry}
 use Rattle.rules.specs.declared.Object.{Object}
 use Rattle.rules.specs.Client.{build, Built, check, frameOf, issue}
 use Rattle.digest.specs.Hmac.{hmac}
+use Rattle.rules.specs.Needs.{defaultNeed}
 use Rattle.rules.specs.Drive.{Drive, format, Keys, lives, partitionAt, quarter, refresh, sound}
 use Rattle.rules.specs.declared.Operation.{Operation}
 use Rattle.rules.specs.declared.Operation.the-variants.{Read}
@@ -34,7 +35,7 @@ use Rattle.rules.specs.Ledger.{
 }
 use Rattle.rules.specs.Operations.{credentialKey, headSize, keyIn, resultLength, perform}
 use Rattle.rules.specs.Scope.{driveScope, Scope}
-use Rattle.rules.specs.Rows.{bounds, frameRows, row1, row8, row9, rows, scopeRows}
+use Rattle.rules.specs.Rows.{bounds, frameRows, gateRows, lowLevel, row1, row7, row8, row9, rows, scopeRows}
 
 -- ---- the gate grants exactly when no row applies, and a grant is the one that the rules give
 pub record Exact (d : Drive) (m : List ℕ) (c : Call) : Type 0 where
@@ -57,8 +58,8 @@ pub record MarkAndOutlived (d e : Drive) : Type 0 where
       ⊎ (getD (e .memories) k [] ≡ keep (lives (e .tables .highWater)) (getD (d .memories) k []))
 
 pub record Demand1 (d : Drive) (m : List ℕ) (c : Call) : Type 0 where
-  -- "gets a grant or one row number from document 01"
-  pub row : gate d m c .row ≤ 23
+  -- "gets a grant or one row number from document 01"; document 02 adds its own
+  pub row : (gate d m c .row ≡ 0) ⊎ List·Memᴰ (gate d m c .row) gateRows
   -- "A refusal writes no byte of the reply space or the medium"
   pub length : (gate d m c .row ≡ 0 → ⊥) → gate d m c .length ≡ 0
   pub space : (gate d m c .row ≡ 0 → ⊥) → gate d m c .space ≡ c .space
@@ -87,11 +88,13 @@ pub record IssuesBack (c : Credential) (slotKey space : List ℕ) : Type 0 where
 pub record Authentic (c : Credential) (slotKey frame : List ℕ) : Type 0 where
   pub set : (s : Scope Object) → keyIn (s .keys) (c .partition) (c .slot) ≡ some slotKey → row8 s (fields frame .cred) ≡ false
   pub digest : (s : Scope Object) → keyIn (s .keys) (c .partition) (c .slot) ≡ some slotKey → row9 s (fields frame) ≡ false
-  -- and the gate's row is the first of row 1 and rows 10 to 23 that applies
+  -- and the gate's row is the first of row 1, of row 7 by the partition's table, and of those from 10 on that applies
   pub row : (d : Drive) (m : List ℕ) (call : Call) → call .frame ≡ frame
       → keyIn (d .tables .keys) (c .partition) (c .slot) ≡ some slotKey
-      → gate d m call .row ≡ firstRow (line 1 (row1 d m) ∷ scopeRows (driveScope (refresh (call .clock) d) (fields frame .cred))
-      (fields frame .cred) (fields frame .req) (length (call .space)))
+      → gate d m call .row ≡ firstRow (line 1 (row1 d m)
+      ∷ line 7 (row7 (driveScope (refresh (call .clock) d) (fields frame .cred)) (fields frame .cred) (fields frame .req))
+      ∷ scopeRows (driveScope (refresh (call .clock) d) (fields frame .cred)) (fields frame .cred) (fields frame .req)
+      (fields frame .payload) (length (call .space)))
 
 -- "What the builder writes, the gate reads as the same fields."
 -- the frame that a builder wrote: the first bytes of its space, as many as it says
@@ -101,9 +104,11 @@ builtFrame b = take (b .length) (b .space)
 pub record ReadsBack (credential request payload key space : List ℕ) : Type 0 where
   -- it is the document's frame
   pub frame : builtFrame (build credential request payload key space) ≡ frameOf credential request payload key
-  -- none of rows 2 to 7 refuses it
+  -- none of rows 2 to 6 refuses it,
   pub accepted : firstRow (frameRows (frameOf credential request payload key)
       (fields (frameOf credential request payload key))) ≡ 0
+  -- nor row 7, where the operation needs what document 01's rule says
+  pub level : lowLevel (defaultNeed (requestAt request 0 .operation)) (credentialAt credential 0) (requestAt request 0) ≡ false
   -- and its fields are the records', its parts theirs and the data
   pub fields : fields (frameOf credential request payload key) ≡ record {
     cred = credentialAt credential 0;
@@ -195,7 +200,7 @@ pub record Agrees (M : ℕ) (s : State) (l : Ledger) : Type 0 where
   -- the drive's M, and the medium's length
   pub size : s .drive .size ≡ M
   pub medium : length (s .medium) ≡ M
-  -- mark, keys, versions, last versions given, objects in the ledger's order
+  -- mark, keys, versions, last versions given, operation tables, objects in the ledger's order
   pub tables : s .drive .tables ≡ tablesOf l
   -- "each object's area of the medium holds its bytes in the ledger"
   pub bytes : (p : ℕ) (h : LedgerObject) → List·Memᴰ h (partitionAt l p .objects)
@@ -234,7 +239,8 @@ pub record Demand3 (M : ℕ) (s : State) (l : Ledger) (calls : List Call) : Type
       → nonce c ≡ nonce d → ⊥
   -- "Each grant is within its credential's rights, expiry and .. range.
   -- It is under the key and .. the version that the format or earlier grants put there":
-  -- rows 8–10 and 13–17, by the ledger before the call with the mark that this call sets
+  -- rows 8–10 and 13–17, by the ledger before the call with the mark that this call sets.
+  -- Change 5 of document 02: "a grant keeps to the table that earlier grants loaded, which the ledger holds too": row 7 as well
   pub kept : (before later : List Call) (c : Call)
       → calls ≡ before ++ (c ∷ later)
       → Granted s before c

@@ -1,5 +1,6 @@
 -- Document 01, "Drive state": what a drive holds, the sound record, the mark, the nonce memories,
--- and format with rows 24 to 26.
+-- and format with rows 24 to 26. Each partition has its operation table (document 02, change 5), of which a sound
+-- record asks nothing.
 -- d: a drive. t: its tables. p: a partition. q: the quarter.
 use mathlib.Core.Bool.{Bool, _&&_, _||_, cond}
 use mathlib.Core.Option.{Option, none, some}
@@ -13,17 +14,20 @@ use Rattle.lemmas.specs.RowTable.{Row, line, firstRow}
 use Rattle.rules.specs.Frame.{keySize}
 use Rattle.rules.specs.declared.Object.{Object}
 use Rattle.rules.specs.declared.Entry.{Entry}
+use Rattle.rules.specs.declared.Need.{Need}
+use Rattle.rules.specs.Needs.{defaultNeeds}
 
 -- ---- a partition, over any kind of object: the drive's objects are Objects, the ledger's have their bytes too.
--- `last` is the last version given; objects stand in order of creation
+-- `last` is the last version given, `needs` the operation table; objects stand in order of creation
 pub record Partition (A : Type 0) : Type 0 where
   pub version : ℕ
   pub last : ℕ
+  pub needs : List Need
   pub objects : List A
 
 -- the partition with another version, last version given and objects
 abbrev pub partitionWith : {A B : Type 0} → ℕ → ℕ → List B → Partition A → Partition B
-partitionWith version last objects p = record { version = version; last = last; objects = objects }
+partitionWith version last objects p = record { version = version; last = last; needs = p .needs; objects = objects }
 
 -- ---- keys; none where one was never set. The partitions' keys and working keys (0 black, 1 gold) in a list each
 abbrev pub Key : Type 0
@@ -53,9 +57,10 @@ abbrev pub driveWith : Tables Object → List (List Entry) → Drive → Drive
 driveWith tables memories d = record { size = d .size; tables = tables; memories = memories }
 
 module _ {A : Type 0} where
-  -- a partition that has nothing, with version F
+  -- a partition that has nothing, with version F;
+  -- its operation table "starts, in row 24's drive too, as document 01's rule"
   abbrev pub emptyPartition : ℕ → Partition A
-  emptyPartition F = record { version = F; last = F; objects = [] }
+  emptyPartition F = record { version = F; last = F; needs = defaultNeeds; objects = [] }
 
   abbrev pub partitionAt : Tables A → ℕ → Partition A
   partitionAt t p = getD (t .partitions) p (emptyPartition 0)

@@ -13,7 +13,7 @@ use Rattle.rules.specs.declared.Credential.{Credential}
 use Rattle.rules.specs.declared.Request.{Request}
 use Rattle.rules.specs.declared.Entry.{Entry}
 use Rattle.rules.specs.declared.Operation.{Operation}
-use Rattle.rules.specs.declared.Operation.the-variants.{Read, Write, Look, Raise, Create, Delete, SetKey}
+use Rattle.rules.specs.declared.Operation.the-variants.{Read, Write, Look, Raise, Create, Delete, SetKey, LoadTable}
 
 -- ---- the lengths of a frame's parts: credential, request, n data bytes, digest
 abbrev pub credentialSize : ℕ
@@ -130,10 +130,11 @@ unfoldable pub covered : ℕ → List ℕ → List ℕ → List ℕ → List ℕ
 covered level credential request payload = cond (level is 0) (credential ++ request)
     (credential ++ (request ++ payload))
 
--- ---- operations 1 to 7, each with its own arguments out of A and B
+-- ---- operations 1 to 8, each with its own arguments out of A and B; the last one's is its data (document 02, change 5)
 abbrev pub operations : Request → List Operation
 operations r =
-    Read (r .A) (r .B) ∷ Write (r .A) (r .B) ∷ Look ∷ Raise ∷ Create (r .A) (r .B) ∷ Delete ∷ SetKey (r .A) ∷ []
+    Read (r .A) (r .B) ∷ Write (r .A) (r .B) ∷ Look ∷ Raise ∷ Create (r .A) (r .B) ∷ Delete ∷ SetKey (r .A)
+    ∷ LoadTable ∷ []
 
 -- row 4 refuses any other byte; that this is total, such a byte is read as a look, which changes nothing
 unfoldable pub operation : Request → Operation

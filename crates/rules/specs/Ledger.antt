@@ -10,14 +10,16 @@ use Rattle.lemmas.specs.Lists.{splice, keep, change}
 use Rattle.rules.specs.declared.Credential.{Credential}
 use Rattle.rules.specs.declared.Object.{Object}
 use Rattle.rules.specs.declared.Operation.{Operation}
-use Rattle.rules.specs.declared.Operation.the-variants.{Read, Write, Look, Raise, Create, Delete, SetKey}
+use Rattle.rules.specs.declared.Operation.the-variants.{Read, Write, Look, Raise, Create, Delete, SetKey, LoadTable}
 use Rattle.rules.specs.Frame.{Fields, fields, operationOf}
+use Rattle.rules.specs.Needs.{needsAt}
 use Rattle.rules.specs.Drive.{Partition, partitionWith, Tables, withHighWater, newTables, quarter, newHighWater}
 use Rattle.rules.specs.Scope.{Scope, withPartition, withKeys, tablesScope, withScope}
-use Rattle.rules.specs.Operations.{placementStart, nextVersion, withVersion, keySet}
+use Rattle.rules.specs.Operations.{placementStart, nextVersion, withVersion, keySet, withNeeds}
 
 -- ---- "It holds a mark, the keys, and for each partition its version, the last version given
--- and its objects in order of creation, each with number, version, area and bytes."
+-- and its objects in order of creation, each with number, version, area and bytes." Change 5 of document 02: its operation
+-- table, "which the ledger holds too"
 pub record LedgerObject : Type 0 where
   pub object : Object
   pub bytes : List ℕ
@@ -49,6 +51,7 @@ bareScope s = record {
 }
 
 -- ---- "Start: mark 0; master and drive key set, no other; each partition's version and last given are F; no object."
+-- Each operation table "starts .. as document 01's rule"
 unfoldable pub ledgerStart : ℕ → List ℕ → List ℕ → Ledger
 ledgerStart F master drive = newTables F (some master) (some drive)
 
@@ -82,7 +85,7 @@ ledgerCreated number size ledgerStart p =
 unfoldable pub ledgerDeleted : ℕ → Partition LedgerObject → Partition LedgerObject
 ledgerDeleted n p = partitionWith (p .version) (p .last) (keep (λ (h : LedgerObject). numberOf h isnt n) (p .objects)) p
 
--- "1, 3: nothing." "7: keys change by operation 7, from the ledger's signing key."
+-- "1, 3: nothing." "7: keys change by operation 7, from the ledger's signing key." 8: the data is the partition's table
 unfoldable pub ledgerPerform : Operation → Scope LedgerObject → Fields → Scope LedgerObject
 ledgerPerform (Read offset length) s x = s
 ledgerPerform (Write offset length) s x = withPartition (ledgerWritten (x .cred .object) offset (x .payload) (s .partition)) s
@@ -91,6 +94,7 @@ ledgerPerform Raise s x = withPartition (ledgerRaised (x .cred .object) (s .part
 ledgerPerform (Create number size) s x = withPartition (ledgerCreated number size (placementStart (bareScope s) size) (s .partition)) s
 ledgerPerform Delete s x = withPartition (ledgerDeleted (x .cred .object) (s .partition)) s
 ledgerPerform (SetKey target) s x = withKeys (keySet target x (s .keys)) s
+ledgerPerform LoadTable s x = withPartition (withNeeds (needsAt (x .payload)) (s .partition)) s
 
 -- ---- "fed .. each call's frame, clock reading and row; nothing comes from the drive record"
 pub record Fed : Type 0 where

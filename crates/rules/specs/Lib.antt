@@ -1,6 +1,8 @@
--- Document 01, read in this order; of document 02 the two heads and the sixteen-byte steps, behind the demands, and the
--- shift report, behind the program whose input it reads. What a change made of a rule stands at the rule.
+-- Document 01, read in this order; of document 02 what operations need, before the drive that holds it; the two heads, the
+-- sixteen-byte steps and the operation table, behind the demands; and the shift report, behind the program whose input it
+-- reads. What a change made of a rule stands at the rule.
 pub mod Frame
+pub mod Needs
 pub mod Drive
 pub mod Scope
 pub mod BestFit
@@ -12,6 +14,7 @@ pub mod Ledger
 pub mod Demands
 pub mod TwoHeads
 pub mod Steps
+pub mod OperationTable
 pub mod Story
 pub mod Program
 pub mod Report

@@ -1,4 +1,5 @@
--- Document 01, "Operations": what a frame names, the seven operations' results and effects, and the reply.
+-- Document 01, "Operations", and operation 8 of document 02: what a frame names, the operations' results and effects, and the
+-- reply.
 -- s: the frame's scope. x: its fields. c: the numbers of its credential. m: the medium.
 use mathlib.Core.Bool.{_||_, cond}
 use mathlib.Core.Option.{Option, none, some, Option·getD}
@@ -13,9 +14,11 @@ use Rattle.rules.specs.declared.Credential.{Credential}
 use Rattle.rules.specs.declared.Request.{Request}
 use Rattle.rules.specs.declared.Object.{Object}
 use Rattle.rules.specs.declared.Entry.{Entry}
+use Rattle.rules.specs.declared.Need.{Need}
 use Rattle.rules.specs.declared.Operation.{Operation}
-use Rattle.rules.specs.declared.Operation.the-variants.{Read, Write, Look, Raise, Create, Delete, SetKey}
+use Rattle.rules.specs.declared.Operation.the-variants.{Read, Write, Look, Raise, Create, Delete, SetKey, LoadTable}
 use Rattle.rules.specs.Frame.{Fields, covered, entry, digestSize}
+use Rattle.rules.specs.Needs.{needsAt}
 use Rattle.rules.specs.Drive.{Partition, partitionWith, Key, Keys}
 use Rattle.rules.specs.Scope.{Scope, withPartition, withKeys}
 use Rattle.rules.specs.BestFit.{extentStep, bestFit}
@@ -148,6 +151,10 @@ keyPut slot partition A new k =
 unfoldable pub keySet : ℕ → Fields → Keys → Keys
 keySet target x k = keyPut (x .cred .slot) (x .cred .partition) target (newKey k x) k
 
+-- 8. Load table (document 02, change 5): "Operation 8 .. loads it from 21 data bytes"
+abbrev pub withNeeds : {A : Type 0} → List Need → Partition A → Partition A
+withNeeds needs p = record { version = p .version; last = p .last; needs = needs; objects = p .objects }
+
 -- ---- what an operation gives and leaves: its result, the scope and the medium
 pub record Performed : Type 0 where
   pub result : List ℕ
@@ -177,6 +184,8 @@ perform (Create number size) s x m =
 perform Delete s x m = performed [] (withPartition (deleted (x .cred .object) (s .partition)) s) m
 -- 7. Set key: "Result empty; lower keys keep their values"
 perform (SetKey target) s x m = performed [] (withKeys (keySet target x (s .keys)) s) m
+-- 8. Load table: the partition's table is the data's; "empty result"
+perform LoadTable s x m = performed [] (withPartition (withNeeds (needsAt (x .payload)) (s .partition)) s) m
 
 -- "A grant enters (slot, holder, T, count)" and, by change 2 of document 02, the credential's object
 unfoldable pub remember : Fields → List Entry → List Entry

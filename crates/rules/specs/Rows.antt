@@ -1,9 +1,11 @@
--- Document 01, "Why the drive says no", rows 1 to 23: each row's test under the document's words, then one table.
+-- Document 01, "Why the drive says no", rows 1 to 23, and row 31 of document 02: each row's test under the documents'
+-- words, then one table. Change 5 of document 02: "Rows 4 to 7 and 13 read accordingly".
 -- f: the frame. c, r: the numbers of its credential and request. x: its fields. s: its scope.
 use mathlib.Core.Bool.{Bool, not, _&&_, _||_, cond}
 use mathlib.Core.List.{List, [], _∷_, _++_}
-use Prim.Native.Nat.{ℕ, _+_, _-_, _/_, _%_, _^_}
+use Prim.Native.Nat.{ℕ, _+_}
 use lib.ListN.{length}
+use lib.Bits.{bitAnd}
 use lib.Dec.{leb}
 use Rattle.lemmas.specs.Tests.{_over_, _under_, _is_, _isnt_, any}
 use Rattle.lemmas.specs.Lists.{same, some?, find, missing}
@@ -11,7 +13,9 @@ use Rattle.lemmas.specs.RowTable.{Row, line}
 use Rattle.rules.specs.declared.Credential.{Credential}
 use Rattle.rules.specs.declared.Request.{Request}
 use Rattle.rules.specs.declared.Object.{Object}
+use Rattle.rules.specs.declared.Need.{Need}
 use Rattle.rules.specs.Frame.{credentialMagic, requestMagic, Fields, fields, entry}
+use Rattle.rules.specs.Needs.{needUnder, needsSize, needsAt, goodNeeds}
 use Rattle.rules.specs.Drive.{Drive, lastVersion, mostObjects, mostEntries, sound, timeWindow, sameEntry, refresh}
 use Rattle.rules.specs.Scope.{Scope, driveScope}
 use Rattle.rules.specs.Operations.{keyIn, digestOf, namedObject, objectOf, presentVersion, placement, replyLength}
@@ -32,6 +36,7 @@ abbrev pub row3 : Credential → Request → Bool
 row3 c r = c .magic isnt credentialMagic || r .magic isnt requestMagic
 
 -- 4. "A field is outside the values above, including rights bits 7–15 set and slot 3 or 4 with partition not 0."
+-- Operations are 1 to 8
 abbrev pub credentialFaults : Credential → List Bool
 credentialFaults c =
     (c .partition over 3)
@@ -49,7 +54,7 @@ abbrev pub mostData : ℕ
 mostData = 1_048_576
 
 abbrev pub requestFaults : Request → List Bool
-requestFaults r = (r .operation under 1) ∷ (r .operation over 7) ∷ (r .level over 2) ∷ (r .n over mostData) ∷ []
+requestFaults r = (r .operation under 1) ∷ (r .operation over 8) ∷ (r .level over 2) ∷ (r .n over mostData) ∷ []
 
 abbrev pub outsideRequest : Request → Bool
 outsideRequest r = any (requestFaults r)
@@ -58,9 +63,9 @@ abbrev pub row4 : Credential → Request → Bool
 row4 c r = outsideCredential c || outsideRequest r
 
 -- 5. "n is not 0 for operations 1 and 3–6, B for 2, 16 for 7,
--- or the frame is not as long as its parts together, 96 + n bytes."
+-- or the frame is not as long as its parts together, 96 + n bytes." And 21 for 8
 abbrev pub dataLength : Request → ℕ
-dataLength r = cond (r .operation is 2) (r .B) (cond (r .operation is 7) 16 0)
+dataLength r = cond (r .operation is 2) (r .B) (cond (r .operation is 7) 16 (cond (r .operation is 8) needsSize 0))
 
 abbrev pub wrongData : Request → Bool
 wrongData r = r .n isnt dataLength r
@@ -72,6 +77,7 @@ row5 r f = wrongData r || length f isnt leastFrame + r .n
 -- 1, 2, 6 on object 0; 5, 7 elsewhere;
 -- 3, 4, 6 with A or B not 0; 5 with A or B 0;
 -- 7 with B not 0, or A over 1, 3, 0 for slots 2, 3, 4."
+-- And operation 8 unless "slot 2 ..; object, version, A and B 0"
 abbrev pub misfits : Credential → Request → List Bool
 misfits c r =
     (r .operation under 7 && c .slot over 1)
@@ -84,14 +90,22 @@ misfits c r =
     ∷ (r .operation is 7 && c .slot is 2 && r .A over 1)
     ∷ (r .operation is 7 && c .slot is 3 && r .A over 3)
     ∷ (r .operation is 7 && c .slot is 4 && r .A over 0)
+    ∷ (r .operation is 8 && (c .slot isnt 2 || c .object isnt 0 || c .version isnt 0 || r .A isnt 0 || r .B isnt 0))
     ∷ []
 
 abbrev pub row6 : Credential → Request → Bool
 row6 c r = any (misfits c r)
 
--- 7. "The level is under the credential's least, or is 0 with operation 7."
-abbrev pub row7 : Credential → Request → Bool
-row7 c r = r .level under c .least || (r .level is 0 && r .operation is 7)
+-- what the frame's operation needs, by its partition's table where that holds
+unfoldable pub needOf : Scope Object → Credential → Request → Need
+needOf s c r = needUnder (s .partition .needs) (c .slot) (r .operation)
+
+-- 7. "The level is under the credential's least", or under the one that the operation needs
+abbrev pub lowLevel : Need → Credential → Request → Bool
+lowLevel n c r = r .level under c .least || r .level under n .least
+
+unfoldable pub row7 : Scope Object → Credential → Request → Bool
+row7 s c r = lowLevel (needOf s c r) c r
 
 -- 8. "The named key was never set."
 unfoldable pub row8 : Scope Object → Credential → Bool
@@ -120,12 +134,13 @@ row11 s r = untimely (s .highWater) (r .time)
 unfoldable pub row12 : Scope Object → Credential → Request → Bool
 row12 s c r = some? (sameEntry (entry c r)) (s .memory)
 
--- 13. "The right is missing." "Operation k needs rights bit k − 1"; bits count from the lowest
-abbrev pub bit : ℕ → ℕ → Bool
-bit k n = n / 2 ^ k % 2 is 1
+-- 13. "The right is missing", "every right in the mask being needed":
+-- the bits of the mask that the rights have are not all of it
+abbrev pub lacksRight : Need → Credential → Bool
+lacksRight n c = bitAnd (n .mask) (c .rights) isnt n .mask
 
-unfoldable pub row13 : Credential → Request → Bool
-row13 c r = not (bit (r .operation - 1) (c .rights))
+unfoldable pub row13 : Scope Object → Credential → Request → Bool
+row13 s c r = lacksRight (needOf s c r) c
 
 -- 14. "The object, not 0, does not exist in the partition."
 unfoldable pub row14 : Scope Object → Credential → Bool
@@ -169,6 +184,10 @@ row20 s r = r .operation is 5 && missing (placement s (r .B))
 unfoldable pub row21 : Scope Object → Request → Bool
 row21 s r = givesVersion r && s .partition .last is lastVersion
 
+-- 31. "Turned away: 31, after row 21, when the table is not good": the one that operation 8 would load
+unfoldable pub row31 : Request → List ℕ → Bool
+row31 r payload = r .operation is 8 && not (goodNeeds (needsAt payload))
+
 -- 22. "The memory holds 64 entries; here and in row 12 outlived entries have gone first."
 unfoldable pub row22 : Scope Object → Bool
 row22 s = length (s .memory) is mostEntries
@@ -178,7 +197,7 @@ abbrev pub row23 : Request → ℕ → Bool
 row23 r room = room under replyLength r
 
 -- ---- the table
--- rows 2 to 7: the frame's own bytes
+-- rows 2 to 6: the frame's own bytes
 unfoldable pub frameRows : List ℕ → Fields → List Row
 frameRows f x =
     line 2 (row2 f)
@@ -186,17 +205,16 @@ frameRows f x =
     ∷ line 4 (row4 (x .cred) (x .req))
     ∷ line 5 (row5 (x .req) f)
     ∷ line 6 (row6 (x .cred) (x .req))
-    ∷ line 7 (row7 (x .cred) (x .req))
     ∷ []
 
--- rows 10 to 23: the frame's scope, which has the new mark and no outlived entry, the numbers of credential and
--- request, and the reply space's length
-unfoldable pub scopeRows : Scope Object → Credential → Request → ℕ → List Row
-scopeRows s c r room =
+-- rows 10 to 23, with 31 after 21: the frame's scope, which has the new mark and no outlived entry, the numbers of
+-- credential and request, the data, and the reply space's length
+unfoldable pub scopeRows : Scope Object → Credential → Request → List ℕ → ℕ → List Row
+scopeRows s c r payload room =
     line 10 (row10 s c)
     ∷ line 11 (row11 s r)
     ∷ line 12 (row12 s c r)
-    ∷ line 13 (row13 c r)
+    ∷ line 13 (row13 s c r)
     ∷ line 14 (row14 s c)
     ∷ line 15 (row15 s c r)
     ∷ line 16 (row16 c r)
@@ -205,13 +223,18 @@ scopeRows s c r room =
     ∷ line 19 (row19 s r)
     ∷ line 20 (row20 s r)
     ∷ line 21 (row21 s r)
+    ∷ line 31 (row31 r payload)
     ∷ line 22 (row22 s)
     ∷ line 23 (row23 r room)
     ∷ []
 
--- and rows 8 and 9, which take the key
+-- and before them row 7, which takes the table, and rows 8 and 9, which take the key
 unfoldable pub driveRows : Scope Object → Fields → List ℕ → List Row
-driveRows s x space = line 8 (row8 s (x .cred)) ∷ line 9 (row9 s x) ∷ scopeRows s (x .cred) (x .req) (length space)
+driveRows s x space =
+    line 7 (row7 s (x .cred) (x .req))
+    ∷ line 8 (row8 s (x .cred))
+    ∷ line 9 (row9 s x)
+    ∷ scopeRows s (x .cred) (x .req) (x .payload) (length space)
 
 -- all, of a frame put to the drive d at a clock reading
 unfoldable pub rows : Drive → List ℕ → List ℕ → ℕ → List ℕ → List Row
@@ -219,13 +242,20 @@ rows d m f clock space =
     line 1 (row1 d m)
     ∷ (frameRows f (fields f) ++ driveRows (driveScope (refresh clock d) (fields f .cred)) (fields f) space)
 
--- the rows that the ledger judges: rights, expiry, range, key and version (8 to 10 and 13 to 17)
+-- their numbers, in this order; a later row of document 02 has a line in the table and a number here
+abbrev pub gateRows : List ℕ
+gateRows =
+    1 ∷ 2 ∷ 3 ∷ 4 ∷ 5 ∷ 6 ∷ 7 ∷ 8 ∷ 9 ∷ 10 ∷ 11 ∷ 12 ∷ 13 ∷ 14 ∷ 15 ∷ 16 ∷ 17 ∷ 18 ∷ 19 ∷ 20 ∷ 21 ∷ 31 ∷ 22 ∷ 23 ∷ []
+
+-- the rows that the ledger judges: rights, expiry, range, key and version (8 to 10 and 13 to 17); and row 7,
+-- for "a grant keeps to the table that earlier grants loaded", to its levels as to its masks
 unfoldable pub bounds : Scope Object → Fields → List Row
 bounds s x =
-    line 8 (row8 s (x .cred))
+    line 7 (row7 s (x .cred) (x .req))
+    ∷ line 8 (row8 s (x .cred))
     ∷ line 9 (row9 s x)
     ∷ line 10 (row10 s (x .cred))
-    ∷ line 13 (row13 (x .cred) (x .req))
+    ∷ line 13 (row13 s (x .cred) (x .req))
     ∷ line 14 (row14 s (x .cred))
     ∷ line 15 (row15 s (x .cred) (x .req))
     ∷ line 16 (row16 (x .cred) (x .req))

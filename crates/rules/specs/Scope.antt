@@ -1,6 +1,6 @@
 -- A scope: what one frame can see and change. Of a drive that is the quarter's size, the mark, the keys, the partition
 -- that its credential names and the nonce memory (replay memory) that its grant enters; of the ledger the same without
--- a memory. Rows 8 to 23, results and effects are defined of a scope, so that no frame mixes two partitions.
+-- a memory. Rows 7 to 23 and 31, results and effects are defined of a scope, so that no frame mixes two partitions.
 -- c: the numbers of a credential. s: a scope. t: tables. d: a drive.
 use mathlib.Core.List.{List, []}
 use Prim.Native.Nat.{ℕ}

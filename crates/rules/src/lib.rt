@@ -59,6 +59,7 @@ pub enum Operation {
     Create { number: u32, size: u32 },
     Delete,
     SetKey { target: u32 },
+    LoadTable,
 }
 
 // An object of a partition. Its extent ("area" in document 01) starts `start` bytes after its quarter's start.
@@ -67,6 +68,13 @@ pub struct Object {
     pub version: u32,
     pub size: u32,
     pub start: u32,
+}
+
+// What an operation needs (document 02, change 5: "a mask of required rights and a least level"): every right in the mask, and a
+// level of at least `least`.
+pub struct Need {
+    pub mask: u32,
+    pub least: u32,
 }
 
 // An entry of a replay memory ("nonce memory" in document 01): document 01's four numbers and, since change 2 of document 02, the

@@ -79,6 +79,31 @@ fn damaged(a: Answer, n: [u64; NUMBERS]) -> Answer {
     }
 }
 
+// The tables with what an operation needs in a partition, as `need` says.
+fn tables_with_need(old: [u32; TABLES], n: [u64; NUMBERS]) -> [u32; TABLES] {
+    let mut t = old;
+    let from = player::table_start(n[words::A]);
+    let i = std::num::wrapping_sub_u64(n[words::B], 1) as usize;
+    if i < player::OPERATIONS {
+        t[from + (player::MASKS_FROM + i)] = four(n[words::C]);
+        t[from + (player::LEASTS_FROM + i)] = four(n[words::C + 1]);
+    }
+    t
+}
+
+// The drive with a need of one operation as `need` says.
+fn with_need(a: Answer, n: [u64; NUMBERS]) -> Answer {
+    let mut d = a.drive;
+    let old = d.tables;
+    let tables = tables_with_need(old, n);
+    d.tables = tables;
+    Answer {
+        row: 0,
+        length: 0,
+        drive: d,
+    }
+}
+
 // The answer to a format, with its drive.
 fn format_answer(medium: &mut [u8], first: u32, master: &[u8], key: &[u8]) -> Answer {
     let f = drive::format(medium, first, master, key);
@@ -131,6 +156,9 @@ fn act(a: Answer, n: [u64; NUMBERS], medium: &mut [u8], frame: &[u8], reply: &mu
     }
     if word == words::DAMAGE {
         return damaged(a, n);
+    }
+    if word == words::NEED {
+        return with_need(a, n);
     }
     a
 }

@@ -1,5 +1,6 @@
 // Plays one line of the script, but for what the line does to the drive. `words` names the places of the player's numbers.
-ghost use Prim.Native.Nat.{_<_};
+ghost use Prim.Native.Nat.{_*_, _≤_, _<_};
+ghost use Rattle.state.specs.Table.{tableSize};
 use crate::frames;
 use crate::frames::four;
 use crate::frames::one;
@@ -7,6 +8,7 @@ use crate::say;
 use crate::script;
 use crate::words;
 use crate::words::NUMBERS;
+use lemmas::smaller;
 
 // The sizes of the drive's key store, of its tables and of one partition's table; how many keys there are, how long one is.
 const KEYS: usize = keyring::KEYS;
@@ -33,8 +35,15 @@ pub const SIZES_FROM: usize = state::SIZES;
 
 pub const STARTS_FROM: usize = state::STARTS;
 
+// Where it has the masks and the least levels of its operation table; how many of each there are.
+pub const MASKS_FROM: usize = state::MASKS;
+
+pub const LEASTS_FROM: usize = state::LEASTS;
+
+pub const OPERATIONS: usize = LEASTS_FROM - MASKS_FROM;
+
 // How many numbers a line has at most.
-const LINE_NUMBERS: usize = 7;
+const LINE_NUMBERS: usize = 14;
 
 // The player's state between two lines: its numbers; the key in the slot that the line names; the key that is kept.
 pub struct Player {
@@ -178,7 +187,27 @@ fn with_objects(old: [u64; NUMBERS], tables: [u32; TABLES]) -> [u64; NUMBERS] {
     n
 }
 
-// With what the drive has: M, the mark, how many entries partition 0's memory has, its objects, the keys.
+// Where the table of a partition starts among the tables; that of the last one where there is no such partition.
+pub fn table_start(partition: u64) -> usize
+    ensures { λ r. ⌜ r ≤ 3 * tableSize ⌝ }
+{
+    TABLE * smaller(partition as usize, 3)
+}
+
+// With the operation table of the partition that a line names.
+fn with_needs(old: [u64; NUMBERS], tables: [u32; TABLES]) -> [u64; NUMBERS] {
+    let mut n = old;
+    let from = table_start(n[words::A]);
+    let mut i: usize = 0;
+    while i < OPERATIONS {
+        n[words::NEEDS + 2 * i] = tables[from + (MASKS_FROM + i)] as u64;
+        n[words::NEEDS + (2 * i + 1)] = tables[from + (LEASTS_FROM + i)] as u64;
+        i += 1;
+    }
+    n
+}
+
+// With what the drive has: M, the mark, how many entries partition 0's memory has, its objects, the keys, a table.
 pub fn with_drive(
     old: [u64; NUMBERS],
     kept: [u8; KEY_SIZE],
@@ -193,7 +222,7 @@ pub fn with_drive(
     n[words::DRIVE + 1] = mark;
     n[words::DRIVE + 7] = held as u64;
     let key = key_for(n, keys);
-    let numbers = with_objects(n, tables);
+    let numbers = with_needs(with_objects(n, tables), tables);
     Player { numbers, key, kept }
 }
 
@@ -223,6 +252,7 @@ fn show(n: [u64; NUMBERS], key: [u8; KEY_SIZE], line: &[u8]) {
         words::RECORD => say::numbers(label, &n[words::DRIVE..words::LAST]),
         words::START => show_start(n[words::PLACE]),
         words::KEY => say::bytes(label, &key),
+        words::TABLE => say::numbers(label, &n[words::NEEDS..NUMBERS]),
         _ => {}
     }
 }
@@ -253,7 +283,15 @@ fn framed(
     n
 }
 
-// With what the line prints printed, its frame built, its key kept.
+// Sets a byte of the frame, where it has it.
+fn set_byte(frame: &mut [u8], at: u64, x: u64) {
+    let i = at as usize;
+    if i < frame.len() {
+        frame[i] = one(x);
+    }
+}
+
+// With what the line prints printed, its frame built or a byte of it set, its key kept.
 pub fn prepared(t: Player, script: &[u8], frame: &mut [u8]) -> Player {
     let n = t.numbers;
     let key = t.key;
@@ -265,6 +303,10 @@ pub fn prepared(t: Player, script: &[u8], frame: &mut [u8]) -> Player {
         let by = signing_key(n[words::SIGN], key, kept);
         let numbers = framed(n, by, line, frame);
         return Player { numbers, key, kept };
+    }
+    if word == words::BYTE {
+        set_byte(frame, n[words::A], n[words::B]);
+        return t;
     }
     if word == words::KEEP {
         return Player {

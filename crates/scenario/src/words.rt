@@ -4,119 +4,128 @@ ghost use Prim.Native.Nat.{_<_};
 use crate::script;
 
 // How many numbers the player has, and one more than the number of the last word.
-pub const NUMBERS: usize = 76;
+pub const NUMBERS: usize = 105;
 
-const WORD_COUNT: usize = 45;
+const WORD_COUNT: usize = 49;
 
 pub const WRITE: usize = 2;
 
-pub const SETKEY: usize = 7;
+pub const LOAD: usize = 8;
 
-pub const AGAIN: usize = 8;
+pub const AGAIN: usize = 9;
 
-pub const FORMAT: usize = 9;
+pub const FORMAT: usize = 10;
 
-pub const DAMAGE: usize = 10;
+pub const DAMAGE: usize = 11;
 
-pub const DO: usize = 11;
+pub const NEED: usize = 12;
 
-pub const DONE: usize = 12;
+pub const BYTE: usize = 13;
 
-pub const STOP: usize = 13;
+pub const DO: usize = 14;
 
-pub const TITLE: usize = 14;
+pub const DONE: usize = 15;
 
-pub const COMMENT: usize = 15;
+pub const STOP: usize = 16;
 
-pub const KEEP: usize = 16;
+pub const TITLE: usize = 17;
 
-pub const MARK: usize = 17;
+pub const COMMENT: usize = 18;
 
-pub const HELD: usize = 18;
+pub const KEEP: usize = 19;
 
-pub const OBJECTS: usize = 19;
+pub const MARK: usize = 20;
 
-pub const RECORD: usize = 20;
+pub const HELD: usize = 21;
 
-pub const START: usize = 21;
+pub const OBJECTS: usize = 22;
 
-pub const KEY: usize = 22;
+pub const RECORD: usize = 23;
 
-pub const SIZE: usize = 23;
+pub const START: usize = 24;
+
+pub const KEY: usize = 25;
+
+pub const SIZE: usize = 26;
+
+pub const TABLE: usize = 27;
 
 // The words from here on set numbers.
-pub const PARTITION: usize = 24;
+pub const PARTITION: usize = 28;
 
-pub const SLOT: usize = 25;
+pub const SLOT: usize = 29;
 
-pub const OBJECT: usize = 26;
+pub const OBJECT: usize = 30;
 
-pub const VERSION: usize = 27;
+pub const VERSION: usize = 31;
 
-pub const HOLDER: usize = 28;
+pub const HOLDER: usize = 32;
 
-pub const RIGHTS: usize = 29;
+pub const RIGHTS: usize = 33;
 
-pub const LEAST: usize = 30;
+pub const LEAST: usize = 34;
 
-pub const FIRST: usize = 31;
+pub const FIRST: usize = 35;
 
-pub const END: usize = 32;
+pub const END: usize = 36;
 
-pub const EXPIRY: usize = 33;
+pub const EXPIRY: usize = 37;
 
-pub const LEVEL: usize = 34;
+pub const LEVEL: usize = 38;
 
-pub const TIME: usize = 35;
+pub const TIME: usize = 39;
 
-pub const COUNT: usize = 36;
+pub const COUNT: usize = 40;
 
-pub const PACE: usize = 37;
+pub const PACE: usize = 41;
 
-pub const CLOCK: usize = 38;
+pub const CLOCK: usize = 42;
 
-pub const SPACE: usize = 39;
+pub const SPACE: usize = 43;
 
-pub const MEDIUM: usize = 40;
+pub const MEDIUM: usize = 44;
 
-pub const SIGN: usize = 41;
+pub const SIGN: usize = 45;
 
-pub const QUIET: usize = 42;
+pub const QUIET: usize = 46;
 
-pub const REPEAT: usize = 43;
+pub const REPEAT: usize = 47;
 
 // How many bytes of the last frame are put.
-pub const LENGTH: usize = 44;
+pub const LENGTH: usize = 48;
 
 // The line: its word, where it starts and ends, where the next one starts, where to go on behind a part.
-pub const WORD: usize = 52;
+pub const WORD: usize = 62;
 
-pub const FROM: usize = 53;
+pub const FROM: usize = 63;
 
-pub const TO: usize = 54;
+pub const TO: usize = 64;
 
-pub const NEXT: usize = 55;
+pub const NEXT: usize = 65;
 
-pub const BACK: usize = 56;
+pub const BACK: usize = 66;
 
-// The line's numbers, seven of them.
-pub const A: usize = 57;
+// The line's numbers, fourteen of them.
+pub const A: usize = 67;
 
-pub const B: usize = 58;
+pub const B: usize = 68;
 
-pub const C: usize = 59;
+pub const C: usize = 69;
 
 // M, mark; of partition 0 how many objects, the second one's four numbers, how many entries: what `record` prints. Then the
 // last version given, and where the object that the line names starts.
-pub const DRIVE: usize = 64;
+pub const DRIVE: usize = 81;
 
-pub const LAST: usize = 72;
+pub const LAST: usize = 89;
 
-pub const PLACE: usize = 73;
+pub const PLACE: usize = 90;
+
+// A mask and a least level for each of operations 1 to 7: what `table` prints.
+pub const NEEDS: usize = 91;
 
 // The place of a word in a table of words, 0 where it has none.
 fn place_in(table: &[u8], word: &[u8]) -> usize
-    ensures { λ r. ⌜ r < 45 ⌝ }
+    ensures { λ r. ⌜ r < 49 ⌝ }
 {
     let mut k: usize = 1;
     while k < WORD_COUNT {
@@ -134,8 +143,8 @@ pub fn word_number(word: &[u8]) -> usize {
         return COMMENT;
     }
     place_in(
-        b"? read write look raise create delete setkey again format damage do done stop # ; \
-        keep mark held objects record start key M \
+        b"? read write look raise create delete setkey load again format damage need byte do done stop # ; \
+        keep mark held objects record start key M table \
         credential slot object version holder rights least first end expiry level time count \
         pace clock space medium sign quiet repeat length",
         word,
@@ -149,7 +158,7 @@ pub fn base_of(word: usize) -> usize {
 
 // Where the number is that a word prints.
 pub fn shown_place(word: usize) -> usize
-    ensures { λ r. ⌜ r < 76 ⌝ }
+    ensures { λ r. ⌜ r < 105 ⌝ }
 {
     match word {
         MARK => DRIVE + 1,
@@ -165,7 +174,7 @@ pub fn sends(word: usize) -> bool {
 
 // Whether a word builds the frame that it puts.
 pub fn builds(word: usize) -> bool {
-    (word >= 1) & (word <= SETKEY)
+    (word >= 1) & (word <= LOAD)
 }
 
 // Whether a word has an answer, which is printed.

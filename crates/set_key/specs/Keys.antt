@@ -7,7 +7,7 @@ use Prim.Native.Nat.{ℕ, _*_}
 use Rattle.lemmas.specs.Lists.{part}
 use Rattle.digest.specs.Hmac.{hmac}
 use Rattle.rules.specs.declared.Operation.{Operation}
-use Rattle.rules.specs.declared.Operation.the-variants.{Read, Write, Look, Raise, Create, Delete, SetKey}
+use Rattle.rules.specs.declared.Operation.the-variants.{Read, Write, Look, Raise, Create, Delete, SetKey, LoadTable}
 use Rattle.rules.specs.Frame.{keySize}
 use Rattle.keyring.specs.Keys.{isSet, targetIndex, keyStored}
 
@@ -21,3 +21,4 @@ keysAfter (Create number size) j slot p signed ks = ks
 keysAfter Delete j slot p signed ks = ks
 keysAfter (SetKey target) j slot p signed ks =
     cond (isSet ks j) (keyStored (targetIndex slot p target) (hmac (part ks (keySize * j) keySize) signed) ks) ks
+keysAfter LoadTable j slot p signed ks = ks

@@ -8,7 +8,7 @@ use lib.ListN.{length}
 use Rattle.digest.specs.DigestLaws.{length-hmac}
 use Rattle.rules.specs.declared.Object.{Object}
 use Rattle.rules.specs.declared.Operation.{Operation}
-use Rattle.rules.specs.declared.Operation.the-variants.{Read, Write, Look, Raise, Create, Delete, SetKey}
+use Rattle.rules.specs.declared.Operation.the-variants.{Read, Write, Look, Raise, Create, Delete, SetKey, LoadTable}
 use Rattle.rules.specs.Frame.{Fields}
 use Rattle.rules.specs.Scope.{Scope}
 use Rattle.rules.specs.Operations.{keyIn, signing, newKey, keySet, perform}
@@ -35,3 +35,4 @@ keys-after (SetKey a) s x m ks j i e k h =
     let secret = signing (keysIn ks) x in
     let set = key-some ks (keyIndex slot p) secret e (sym (slot-key ks e p slot) ∙ (rw k at h)) in
     rw (k, i, set .0, set .1) (key-put ks (newKey (keysIn ks) x) slot p a e (length-hmac secret (x .request ++ x .payload)))
+keys-after LoadTable s x m ks j i e k h = sym k

@@ -11,6 +11,7 @@ use lemmas::smaller;
 use rules::MOST_OBJECTS;
 use state::COUNT;
 use state::LAST;
+use state::MASKS;
 use state::NUMBERS;
 use state::SIZES;
 use state::STARTS;
@@ -144,12 +145,12 @@ pub fn sound_table(table: &[u32], quarter: u32) -> bool
         return false;
     }
     let n = smaller(table[COUNT] as usize, MOST_OBJECTS);
-    let ends = ends_of(&table[STARTS..TABLE], &table[SIZES..STARTS]);
-    let free = all_clear(&table[NUMBERS..VERSIONS], &table[STARTS..TABLE], &ends, n);
+    let ends = ends_of(&table[STARTS..MASKS], &table[SIZES..STARTS]);
+    let free = all_clear(&table[NUMBERS..VERSIONS], &table[STARTS..MASKS], &ends, n);
     (table[COUNT] <= MOST_OBJECTS as u32)
         & all_sound(
             &table[NUMBERS..VERSIONS],
-            &table[STARTS..TABLE],
+            &table[STARTS..MASKS],
             &ends,
             &table[VERSIONS..SIZES],
             n,

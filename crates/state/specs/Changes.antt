@@ -1,4 +1,5 @@
--- Document 01, operations 4 to 6: what each makes of a partition's table. t: the table; u: the table afterwards.
+-- Operations 4 to 6 of document 01, operation 8 of document 02, and format: what each makes of a partition's table.
+-- t: the table; u: the table afterwards.
 use mathlib.Core.Path.{_≡_}
 use mathlib.Core.Bool.{cond}
 use mathlib.Core.List.{List, [], _∷_, _++_}
@@ -8,15 +9,19 @@ use Rattle.lemmas.specs.Tests.{_is_, _isnt_, _under_}
 use Rattle.lemmas.specs.Lists.{keep, change}
 use Rattle.lemmas.specs.Fronts.{withFront}
 use Rattle.rules.specs.declared.Object.{Object}
+use Rattle.rules.specs.declared.Need.{Need}
 use Rattle.rules.specs.Drive.{mostObjects}
+use Rattle.rules.specs.Needs.{defaultNeeds}
 use Rattle.rules.specs.Operations.{withVersion}
-use Rattle.state.specs.Table.{versionAt, lastAt, countAt, tableSize, places, objectsIn}
+use Rattle.state.specs.Table.{versionAt, lastAt, countAt, tableSize, places, objectsIn, needsIn}
 
--- what a table says: its version, the last version given, its count, and the objects at all its places
+-- what a table says: its version, the last version given, its count, its operation table,
+-- and the objects at all its places
 pub record Content : Type 0 where
   pub version : ℕ
   pub last : ℕ
   pub count : ℕ
+  pub needs : List Need
   pub objects : List Object
 
 abbrev pub contentOf : List ℕ → Content
@@ -24,12 +29,13 @@ contentOf t = record {
   version = getD t versionAt 0;
   last = getD t lastAt 0;
   count = getD t countAt 0;
+  needs = needsIn t;
   objects = places t;
 }
 
 -- the same with other objects
 abbrev pub withObjects : List Object → Content → Content
-withObjects os c = record { version = c .version; last = c .last; count = c .count; objects = os }
+withObjects os c = record { version = c .version; last = c .last; count = c .count; needs = c .needs; objects = os }
 
 -- u is as long as t and says c
 pub record HasContent (t u : List ℕ) (c : Content) : Type 0 where
@@ -54,6 +60,7 @@ raisedContent number v t = record {
   version = cond (number is 0) v (getD t versionAt 0);
   last = v;
   count = getD t countAt 0;
+  needs = needsIn t;
   objects = cond (number is 0) (places t) (withFront (change Object.number number (withVersion v) (objectsIn t)) (places t));
 }
 
@@ -63,6 +70,7 @@ createdContent o t = record {
   version = getD t versionAt 0;
   last = o .version;
   count = cond (getD t countAt 0 under mostObjects) (getD t countAt 0 + 1) (getD t countAt 0);
+  needs = needsIn t;
   objects = cond (getD t countAt 0 under mostObjects) (withFront (objectsIn t ++ (o ∷ [])) (places t)) (places t);
 }
 
@@ -75,5 +83,24 @@ deletedContent number t = record {
   version = getD t versionAt 0;
   last = getD t lastAt 0;
   count = length (otherObjects number t);
+  needs = needsIn t;
   objects = withFront (otherObjects number t) (places t);
 }
+
+-- 8. the operation table is another
+abbrev pub contentWithNeeds : List Need → List ℕ → Content
+contentWithNeeds needs t = record {
+  version = getD t versionAt 0;
+  last = getD t lastAt 0;
+  count = getD t countAt 0;
+  needs = needs;
+  objects = places t;
+}
+
+-- what operation i + 1 needs is another
+abbrev pub contentWithNeed : ℕ → Need → List ℕ → Content
+contentWithNeed i n t = contentWithNeeds (set (needsIn t) i n) t
+
+-- format: no object in use, both versions the first, document 01's rule
+abbrev pub emptiedContent : ℕ → List ℕ → Content
+emptiedContent first t = record { version = first; last = first; count = 0; needs = defaultNeeds; objects = places t }

@@ -1,4 +1,5 @@
--- Laws of a table's places: how many there are, each of them, the objects in use, and a search among these.
+-- Laws of a table's places: how many there are, each of them, the objects in use, and a search among these; and of its
+-- operation table.
 use mathlib.Core.Path.{_≡_, refl, sym, ap, _∙_}
 use mathlib.Core.Bool.{Bool, true, false, cond}
 use mathlib.Core.Option.{none, some}
@@ -12,8 +13,10 @@ use borrow.Author.Tests.{eqb-true, eq-eqb, ne-eqb}
 use Rattle.lemmas.specs.Tests.{_is_}
 use Rattle.lemmas.specs.Lists.{find, missing}
 use Rattle.lemmas.specs.Loops.{find-hit, find-pass}
+use Rattle.rules.specs.declared.Need.{Need}
 use Rattle.rules.specs.declared.Object.{Object}
 use Rattle.rules.specs.Drive.{mostObjects}
+use Rattle.rules.specs.Needs.{needsCount}
 use Rattle.rules.specs.Operations.{noObject}
 use Rattle.state.specs.Padded.{padded-is}
 use Rattle.state.specs.Table.{
@@ -28,6 +31,8 @@ use Rattle.state.specs.Table.{
   partitionIn,
   partitionView,
   lookupIn,
+  needIn,
+  needsIn,
 }
 
 -- ---- numbers in a row, mapped
@@ -49,6 +54,15 @@ places-length t = range-length (objectAt t) 0 mostObjects
 pub places-at : (t : List ℕ) (i : ℕ) → i < mostObjects → getD (places t) i noObject ≡ objectAt t i
 unfolding places
 places-at t i h = let e : 0 + i ≡ i = omega arith in range-at (objectAt t) 0 mostObjects i noObject h ∙ ap (objectAt t) e
+
+-- ---- the operation table
+pub needs-length : (t : List ℕ) → length (needsIn t) ≡ needsCount
+unfolding needsIn
+needs-length t = range-length (needIn t) 0 needsCount
+
+pub needs-at : (t : List ℕ) (i : ℕ) (d : Need) → i < needsCount → getD (needsIn t) i d ≡ needIn t i
+unfolding needsIn
+needs-at t i d h = let e : 0 + i ≡ i = omega arith in range-at (needIn t) 0 needsCount i d h ∙ ap (needIn t) e
 
 -- ---- the objects in use
 pub objects-length : (t : List ℕ) → length (objectsIn t) ≡ min (countIn t) mostObjects

@@ -12,8 +12,10 @@ use Rattle.lemmas.specs.Tests.{_is_, _isnt_, _under_}
 use Rattle.lemmas.specs.Lists.{keep, change}
 use Rattle.lemmas.specs.Fronts.{withFront, front-taken, front-store, front-map, kept-at, kept-one, kept-none}
 use Rattle.rules.specs.declared.Object.{Object}
-use Rattle.rules.specs.Drive.{mostObjects}
+use Rattle.rules.specs.Drive.{emptyPartition, mostObjects}
+use Rattle.rules.specs.Needs.{defaultNeeds}
 use Rattle.rules.specs.Operations.{noObject, withVersion}
+use Rattle.state.specs.Padded.{padded}
 use Rattle.state.specs.Table.{
   versionAt,
   lastAt,
@@ -25,6 +27,7 @@ use Rattle.state.specs.Table.{
   places,
   countIn,
   objectsIn,
+  partitionView,
 }
 use Rattle.state.specs.Places.{places-length, places-at, objects-length, objects-at, count-is}
 use Rattle.state.specs.Changes.{
@@ -38,6 +41,8 @@ use Rattle.state.specs.Changes.{
   raisedContent,
   createdContent,
   deletedContent,
+  contentWithNeeds,
+  emptiedContent,
 }
 use Rattle.state.specs.Stores.{
   places-head,
@@ -47,6 +52,8 @@ use Rattle.state.specs.Stores.{
   stored-length,
   stored-head,
   places-stored,
+  needs-set,
+  needs-stored,
 }
 
 -- nothing has changed
@@ -78,19 +85,21 @@ objects-all t i e =
 -- ---- a store
 module _ (t : List ℕ) (v : ℕ) (l : length t ≡ tableSize) where
   abbrev withPartitionVersion : Content → Content
-  withPartitionVersion c = record { version = v; last = c .last; count = c .count; objects = c .objects }
+  withPartitionVersion c =
+      record { version = v; last = c .last; count = c .count; needs = c .needs; objects = c .objects }
 
   abbrev withLast : Content → Content
-  withLast c = record { version = c .version; last = v; count = c .count; objects = c .objects }
+  withLast c = record { version = c .version; last = v; count = c .count; needs = c .needs; objects = c .objects }
 
   abbrev withCount : Content → Content
-  withCount c = record { version = c .version; last = c .last; count = v; objects = c .objects }
+  withCount c = record { version = c .version; last = c .last; count = v; needs = c .needs; objects = c .objects }
 
   version-stored : contentOf (set t versionAt v) ≡ withPartitionVersion (contentOf t)
   version-stored = rw (
     getD-set-same t versionAt v 0 (omega arith),
     getD-set-other t versionAt lastAt v 0 (λ e. omega arith),
     getD-set-other t versionAt countAt v 0 (λ e. omega arith),
+    needs-set t versionAt v (omega arith),
     places-head t versionAt v (omega arith),
   )
 
@@ -99,6 +108,7 @@ module _ (t : List ℕ) (v : ℕ) (l : length t ≡ tableSize) where
     getD-set-other t lastAt versionAt v 0 (λ e. omega arith),
     getD-set-same t lastAt v 0 (omega arith),
     getD-set-other t lastAt countAt v 0 (λ e. omega arith),
+    needs-set t lastAt v (omega arith),
     places-head t lastAt v (omega arith),
   )
 
@@ -107,6 +117,7 @@ module _ (t : List ℕ) (v : ℕ) (l : length t ≡ tableSize) where
     getD-set-other t countAt versionAt v 0 (λ e. omega arith),
     getD-set-other t countAt lastAt v 0 (λ e. omega arith),
     getD-set-same t countAt v 0 (omega arith),
+    needs-set t countAt v (omega arith),
     places-head t countAt v (omega arith),
   )
 
@@ -118,6 +129,7 @@ module _ (t : List ℕ) (v : ℕ) (l : length t ≡ tableSize) where
     getD-set-other t (versionsFrom + i) versionAt v 0 (λ e. omega arith),
     getD-set-other t (versionsFrom + i) lastAt v 0 (λ e. omega arith),
     getD-set-other t (versionsFrom + i) countAt v 0 (λ e. omega arith),
+    needs-set t (versionsFrom + i) v (omega arith),
     places-version t i v l h,
   )
 
@@ -130,6 +142,7 @@ content-stored t j o l h = record {
     stored-head t j o versionAt (omega arith),
     stored-head t j o lastAt (omega arith),
     stored-head t j o countAt (omega arith),
+    needs-stored t j o l h,
     places-stored t j o l h,
   );
 }
@@ -297,3 +310,47 @@ deleted-all t u number i k l e b n = record {
   long = length-set u countAt k ∙ b .long;
   says = count-stored u k (b .long ∙ l) ∙ ap (withCount t k l) (b .says) ∙ rw (n, objects-all t i e) refl;
 }
+
+-- format: three numbers, then the operation table
+abbrev pub emptyHead : ℕ → List ℕ → List ℕ
+emptyHead first t = set (set (set t versionAt first) lastAt first) countAt 0
+
+pub emptied-all : (t u : List ℕ) (first : ℕ) → length t ≡ tableSize
+    → HasContent (emptyHead first t) u (contentWithNeeds defaultNeeds (emptyHead first t))
+    → HasContent t u (emptiedContent first t)
+emptied-all t u first l b = record {
+  long = b .long ∙ length-set two countAt 0 ∙ long2;
+  says = b .says ∙ ap needsDefault head;
+}
+  where
+    one : List ℕ
+    one = set t versionAt first
+
+    two : List ℕ
+    two = set one lastAt first
+
+    long1 : length one ≡ length t
+    long1 = length-set t versionAt first
+
+    long2 : length two ≡ length t
+    long2 = length-set one lastAt first ∙ long1
+
+    needsDefault : Content → Content
+    needsDefault c =
+        record { version = c .version; last = c .last; count = c .count; needs = defaultNeeds; objects = c .objects }
+
+    head : contentOf (emptyHead first t)
+        ≡ record { version = first; last = first; count = 0; needs = contentOf t .needs; objects = contentOf t .objects }
+    head =
+        count-stored two 0 (long2 ∙ l)
+        ∙ ap (withCount t 0 l) (last-stored one first (long1 ∙ l) ∙ ap (withLast t first l) (version-stored t first l))
+
+-- such a table is of a partition that has nothing
+pub emptied-view : (t u : List ℕ) (first : ℕ) → HasContent t u (emptiedContent first t) → partitionView u ≡ emptyPartition first
+unfolding partitionView padded
+emptied-view t u first b = rw (
+  ap Content.version (b .says),
+  ap Content.last (b .says),
+  ap Content.count (b .says),
+  ap Content.needs (b .says),
+) refl

@@ -1,13 +1,15 @@
--- Laws of stores into a table: what a store does to its first three numbers and to its objects.
+-- Laws of stores into a table: what a store does to its first three numbers, to its objects and to its operation table.
 use mathlib.Core.Path.{_≡_, sym, ap, _∙_}
 use mathlib.Core.List.{List}
-use Prim.Native.Nat.{ℕ, _+_, _<_}
+use Prim.Native.Nat.{ℕ, _+_, _≤_, _<_}
 use native.Mathlib.Decide.{ℕ-discrete}
 use native.Mathlib.Omega.{arith}
 use lib.ListN.{length, getD, set, length-set}
 use lib.Seq.{ext-getD, getD-set-same, getD-set-other}
 use Rattle.rules.specs.declared.Object.{Object}
+use Rattle.rules.specs.declared.Need.{Need}
 use Rattle.rules.specs.Drive.{mostObjects}
+use Rattle.rules.specs.Needs.{defaultNeed, needsCount}
 use Rattle.rules.specs.Operations.{noObject, withVersion}
 use Rattle.state.specs.Table.{
   countAt,
@@ -15,12 +17,16 @@ use Rattle.state.specs.Table.{
   versionsFrom,
   sizesFrom,
   startsFrom,
+  masksFrom,
+  leastsFrom,
   tableSize,
   objectAt,
   places,
   objectsIn,
+  needIn,
+  needsIn,
 }
-use Rattle.state.specs.Places.{places-length, places-at}
+use Rattle.state.specs.Places.{places-length, places-at, needs-length, needs-at}
 
 -- ---- one place changes, or none
 places-same : (t u : List ℕ) → ((i : ℕ) → i < mostObjects → objectAt u i ≡ objectAt t i) → places u ≡ places t
@@ -71,6 +77,24 @@ objects-head t j v h = rw (
   getD-set-other t j countAt v 0 (λ e. omega arith),
   places-head t j v (omega arith),
 )
+
+-- ---- the operation table: a store before it leaves it, and a store in it leaves the objects
+needs-same : (t u : List ℕ) → ((i : ℕ) → i < needsCount → needIn u i ≡ needIn t i) → needsIn u ≡ needsIn t
+needs-same t u f =
+    let n = needs-length u in
+    ext-getD (defaultNeed 0) (needsIn u) (needsIn t) (n ∙ sym (needs-length t)) (λ i h.
+    let m : i < needsCount = omega arith in
+    needs-at u i (defaultNeed 0) m ∙ f i m ∙ sym (needs-at t i (defaultNeed 0) m))
+
+pub needs-set : (t : List ℕ) (j v : ℕ) → j < masksFrom → needsIn (set t j v) ≡ needsIn t
+unfolding needIn
+needs-set t j v h = needs-same t (set t j v) (λ i m. rw (
+  getD-set-other t j (masksFrom + i) v 0 (λ e. omega arith),
+  getD-set-other t j (leastsFrom + i) v 0 (λ e. omega arith),
+))
+
+pub places-behind : (t : List ℕ) (j v : ℕ) → masksFrom ≤ j → places (set t j v) ≡ places t
+places-behind t j v h = places-same t (set t j v) (λ i m. object-apart t j v i (omega arith))
 
 -- ---- a version stored at place j
 pub places-version : (t : List ℕ) (j v : ℕ) → length t ≡ tableSize → j < mostObjects
@@ -153,3 +177,64 @@ module _ (t : List ℕ) (j : ℕ) (o : Object) where
 
     pub places-stored : places (stored t j o) ≡ set (places t) j o
     places-stored = places-put t (stored t j o) j o h here there
+
+    pub needs-stored : needsIn (stored t j o) ≡ needsIn t
+    needs-stored =
+        needs-set three (startsFrom + j) (o .start) (omega arith)
+        ∙ needs-set two (sizesFrom + j) (o .size) (omega arith)
+        ∙ needs-set one (versionsFrom + j) (o .version) (omega arith)
+        ∙ needs-set t (numbersFrom + j) (o .number) (omega arith)
+
+-- ---- what operation i + 1 needs, stored: its two numbers
+abbrev pub needStored : List ℕ → ℕ → Need → List ℕ
+needStored t i n = set (set t (masksFrom + i) (n .mask)) (leastsFrom + i) (n .least)
+
+module _ (t : List ℕ) (i : ℕ) (n : Need) where
+  abbrev masked : List ℕ
+  masked = set t (masksFrom + i) (n .mask)
+
+  pub need-stored-length : length (needStored t i n) ≡ length t
+  need-stored-length = length-set masked (leastsFrom + i) (n .least) ∙ length-set t (masksFrom + i) (n .mask)
+
+  -- what stands before stays
+  pub need-stored-head : (k : ℕ) → k < numbersFrom → getD (needStored t i n) k 0 ≡ getD t k 0
+  need-stored-head k h =
+      getD-set-other masked (leastsFrom + i) k (n .least) 0 (λ e. omega arith)
+      ∙ getD-set-other t (masksFrom + i) k (n .mask) 0 (λ e. omega arith)
+
+  pub places-need-stored : places (needStored t i n) ≡ places t
+  places-need-stored =
+      places-behind masked (leastsFrom + i) (n .least) (omega arith) ∙ places-behind t (masksFrom + i) (n .mask) (omega arith)
+
+  module _ (l : length t ≡ tableSize) (h : i < needsCount) where
+    need-here : needIn (needStored t i n) i ≡ n
+    unfolding needIn
+    need-here = rw (
+      getD-set-other masked (leastsFrom + i) (masksFrom + i) (n .least) 0 (λ e. omega arith),
+      getD-set-same t (masksFrom + i) (n .mask) 0 (omega arith),
+      getD-set-same masked (leastsFrom + i) (n .least) 0 (omega (arith, length-set t (masksFrom + i) (n .mask))),
+    )
+
+    need-there : (k : ℕ) → k < needsCount → (k ≡ i → ⊥) → needIn (needStored t i n) k ≡ needIn t k
+    unfolding needIn
+    need-there k m e = rw (
+      getD-set-other masked (leastsFrom + i) (masksFrom + k) (n .least) 0 (λ q. omega arith),
+      getD-set-other t (masksFrom + i) (masksFrom + k) (n .mask) 0 (λ q. omega arith),
+      getD-set-other masked (leastsFrom + i) (leastsFrom + k) (n .least) 0 (λ q. omega arith),
+      getD-set-other t (masksFrom + i) (leastsFrom + k) (n .mask) 0 (λ q. omega arith),
+    )
+
+    pub needs-need-stored : needsIn (needStored t i n) ≡ set (needsIn t) i n
+    needs-need-stored =
+        let a = needs-length (needStored t i n) in
+        let b = needs-length t in
+        ext-getD n (needsIn (needStored t i n)) (set (needsIn t) i n) (a ∙ sym b ∙ sym (length-set (needsIn t) i n)) (λ k m.
+        let w : k < needsCount = omega arith in
+        needs-at (needStored t i n) k n w ∙ at k w (ℕ-discrete k i))
+      where
+        at : (k : ℕ) → k < needsCount → Dec (k ≡ i) → needIn (needStored t i n) k ≡ getD (set (needsIn t) i n) k n
+        at k w (yes q) =
+            ap (needIn (needStored t i n)) q ∙ need-here
+            ∙ sym (getD-set-same (needsIn t) i n n (omega (arith, needs-length t)))
+            ∙ ap (λ (x : ℕ). getD (set (needsIn t) i n) x n) (sym q)
+        at k w (no q) = need-there k w q ∙ sym (needs-at t k n w) ∙ sym (getD-set-other (needsIn t) i k n n q)

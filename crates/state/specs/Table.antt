@@ -7,8 +7,10 @@ use lib.ListN.{length, getD, take}
 use Rattle.lemmas.specs.Tests.{_is_}
 use Rattle.lemmas.specs.Lists.{find, missing}
 use Rattle.rules.specs.declared.Object.{Object}
+use Rattle.rules.specs.declared.Need.{Need}
 use Rattle.rules.specs.Drive as rules
 use Rattle.rules.specs.Drive.{mostObjects}
+use Rattle.rules.specs.Needs.{needsCount}
 use Rattle.rules.specs.Operations.{noObject}
 use Rattle.state.specs.declared.Lookup.{Lookup}
 use Rattle.state.specs.Padded.{padded}
@@ -37,9 +39,16 @@ sizesFrom = versionsFrom + mostObjects
 abbrev pub startsFrom : ℕ
 startsFrom = sizesFrom + mostObjects
 
+-- the first places of the operation table's masks and least levels, one of each for operations 1 to 7
+abbrev pub masksFrom : ℕ
+masksFrom = startsFrom + mostObjects
+
+abbrev pub leastsFrom : ℕ
+leastsFrom = masksFrom + needsCount
+
 -- how many numbers there are
 abbrev pub tableSize : ℕ
-tableSize = startsFrom + mostObjects
+tableSize = leastsFrom + needsCount
 
 -- the object at place i
 unfoldable pub objectAt : List ℕ → ℕ → Object
@@ -67,9 +76,16 @@ countIn t = cond (length t is tableSize) (getD t countAt 0) 0
 unfoldable pub objectsIn : List ℕ → List Object
 objectsIn t = take (countIn t) (places t)
 
--- its version, the last version given, and its objects
+-- the operation table (document 02, change 5): what operation i + 1 needs, and all seven
+unfoldable pub needIn : List ℕ → ℕ → Need
+needIn t i = record { mask = getD t (masksFrom + i) 0; least = getD t (leastsFrom + i) 0 }
+
+unfoldable pub needsIn : List ℕ → List Need
+needsIn t = map (needIn t) (range 0 needsCount)
+
+-- its version, the last version given, its operation table and its objects
 unfoldable pub partitionIn : List ℕ → rules.Partition Object
-partitionIn t = record { version = getD t versionAt 0; last = getD t lastAt 0; objects = objectsIn t }
+partitionIn t = record { version = getD t versionAt 0; last = getD t lastAt 0; needs = needsIn t; objects = objectsIn t }
 
 -- the same where the count may be over sixteen: then there are that many objects, the last of them with number 0, so that
 -- such a table is not sound
@@ -77,6 +93,7 @@ unfoldable pub partitionView : List ℕ → rules.Partition Object
 partitionView t = record {
   version = getD t versionAt 0;
   last = getD t lastAt 0;
+  needs = needsIn t;
   objects = padded mostObjects noObject (getD t countAt 0) (places t);
 }
 

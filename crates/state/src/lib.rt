@@ -1,5 +1,6 @@
 // A partition's table (document 01, "Drive state"): a lent list of numbers. Its version, the last version given, how many
-// objects there are; then, sixteen of each, the objects' numbers, versions, sizes and starts, in order of creation.
+// objects there are; then, sixteen of each, the objects' numbers, versions, sizes and starts, in order of creation; then, for
+// operations 1 to 7, the masks and the least levels of its operation table (document 02, change 5).
 // Everything is total: a list of another length holds no object and is never changed, and a count over sixteen is taken
 // for sixteen.
 ghost use mathlib.Core.Path.{_≡_};
@@ -8,11 +9,14 @@ ghost use lib.ListN.{length, getD};
 ghost use Rattle.lemmas.specs.Lists.{change};
 ghost use Rattle.rules.specs.declared.Object.{Object};
 ghost use Rattle.rules.specs.Drive.{mostObjects};
+ghost use Rattle.rules.specs.Needs.{defaultNeeds, needsAt, needsCount};
 ghost use Rattle.rules.specs.Operations.{noObject, withVersion};
 ghost use Rattle.state.specs.Table.{tableSize, objectsIn, lookupIn};
-ghost use Rattle.state.specs.Changes.{HasContent, ChangedTo, contentWithFront, contentWithObject, raisedContent, createdContent, deletedContent};
+ghost use Rattle.state.specs.Changes.{HasContent, ChangedTo, contentWithFront, contentWithObject, raisedContent, createdContent, deletedContent, contentWithNeeds, contentWithNeed, emptiedContent};
 use lemmas::smaller;
+use needs::TABLE_OPERATIONS;
 use rules::MOST_OBJECTS;
+use rules::Need;
 use rules::Object;
 
 // The places of a table's numbers, as in specs/Table.antt.
@@ -30,8 +34,12 @@ pub const SIZES: usize = VERSIONS + MOST_OBJECTS;
 
 pub const STARTS: usize = SIZES + MOST_OBJECTS;
 
+pub const MASKS: usize = STARTS + MOST_OBJECTS;
+
+pub const LEASTS: usize = MASKS + TABLE_OPERATIONS;
+
 // How many numbers a table has.
-pub const TABLE: usize = STARTS + MOST_OBJECTS;
+pub const TABLE: usize = LEASTS + TABLE_OPERATIONS;
 
 // The object that has a number; `missing` where there is none, and then the object is all zeros.
 pub struct Lookup {
@@ -176,4 +184,55 @@ pub fn delete(table: &mut [u32], number: u32)
         }
     }
     table[COUNT] = left as u32;
+}
+
+// Stores what operation i + 1 needs.
+fn put_need(table: &mut [u32], i: usize, n: Need)
+    requires { ⌜ (length (now table) ≡ tableSize) × (i < needsCount) ⌝ }
+    ensures { λ _. ⌜ HasContent (now (table .entry)) (now (table .exit)) (contentWithNeed i n (now (table .entry))) ⌝ }
+{
+    table[MASKS + i] = n.mask;
+    table[LEASTS + i] = n.least;
+}
+
+// Operation 8: the operation table is that of the data bytes.
+pub fn load(table: &mut [u32], bytes: &[u8])
+    ensures { λ _. ⌜ ChangedTo (now (table .entry)) (now (table .exit))
+        (contentWithNeeds (needsAt (now (bytes .entry))) (now (table .entry))) ⌝ }
+{
+    if table.len() != TABLE {
+        return;
+    }
+    let mut i = 0;
+    while i < TABLE_OPERATIONS {
+        let n = needs::need_at(bytes, i + 1);
+        put_need(table, i, n);
+        i += 1;
+    }
+}
+
+// The operation table becomes document 01's rule.
+fn put_defaults(table: &mut [u32])
+    requires { ⌜ length (now table) ≡ tableSize ⌝ }
+    ensures { λ _. ⌜ HasContent (now (table .entry)) (now (table .exit)) (contentWithNeeds defaultNeeds (now (table .entry))) ⌝ }
+{
+    let mut i = 0;
+    while i < TABLE_OPERATIONS {
+        let n = needs::default_need((i + 1) as u8);
+        put_need(table, i, n);
+        i += 1;
+    }
+}
+
+// Format: no object is in use, both versions are the first, and the operation table is document 01's rule.
+pub fn empty(table: &mut [u32], first: u32)
+    ensures { λ _. ⌜ ChangedTo (now (table .entry)) (now (table .exit)) (emptiedContent first (now (table .entry))) ⌝ }
+{
+    if table.len() != TABLE {
+        return;
+    }
+    table[VERSION] = first;
+    table[LAST] = first;
+    table[COUNT] = 0;
+    put_defaults(table);
 }

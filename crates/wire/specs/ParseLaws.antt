@@ -35,7 +35,7 @@ use Rattle.wire.specs.Parse.{
 }
 
 -- ---- for a caller
--- fields: no row from 2 to 7 applies, and they are the frame's
+-- fields: no row from 2 to 6 applies, and they are the frame's
 pub answered-fields : (f : List ℕ) (c : Credential) (request : ParsedRequest)
     → answerOf (Fields c request) ≡ frameAnswer f
     → (frameRow f ≡ 0) × (c ≡ fields f .cred) × (numbersOf request ≡ fields f .req)
@@ -81,7 +81,7 @@ both-zero a b e = (
   eqb-true b 0 (not-false (b is 0) (or-r (a isnt 0) (b isnt 0) e)),
 )
 
--- no row from 3 to 7 applies
+-- no row from 3 to 6 applies
 module _ (c : Credential) (r : Request) (len : ℕ) (clear : recordRow c r len ≡ 0) where
   -- the test numbered k fails
   fails : (k : ℕ) → applies k (recordRows c r len) ≡ false
@@ -116,15 +116,27 @@ module _ (c : Credential) (r : Request) (len : ℕ) (clear : recordRow c r len �
       eqb-true (r .B) 0
       (not-false (r .B is 0) (and-rest-false (r .operation is 7) (r .B isnt 0) h (none-of (misfits c r) fitting 6)))
 
+  -- and both are 0 for operation 8
+  bare-load : (r .operation is 8) ≡ true → (r .A ≡ 0) × (r .B ≡ 0)
+  bare-load h =
+      let named : Bool = c .slot isnt 2 || c .object isnt 0 || c .version isnt 0 in
+      let e = and-rest-false (r .operation is 8) (named || r .A isnt 0 || r .B isnt 0) h
+      (none-of (misfits c r) fitting 10) in (
+        eqb-true (r .A) 0 (not-false (r .A is 0)
+            (or-r named (r .A isnt 0) (or-l (named || r .A isnt 0) (r .B isnt 0) e))),
+        eqb-true (r .B) 0 (not-false (r .B is 0) (or-r (named || r .A isnt 0) (r .B isnt 0) e)),
+      )
+
   -- the operation's enum loses nothing
   pub arguments-kept : ArgumentsKept (r .operation) (r .A) (r .B)
   arguments-kept = record {
     low = ltb-false (r .operation) 1 (none-of (requestFaults r) within 0);
-    high = ltb-false 7 (r .operation) (none-of (requestFaults r) within 1);
+    high = ltb-false 8 (r .operation) (none-of (requestFaults r) within 1);
     look = λ h. bare (rw h);
     raise = λ h. bare (rw h);
     delete = λ h. bare (rw h);
     key = λ h. keyless (rw h);
+    load = λ h. bare-load (rw h);
   }
 
   -- and neither does the parsed request

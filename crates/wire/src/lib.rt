@@ -1,4 +1,4 @@
-// The parse of a frame (document 01, rows 2 to 7): its fields, or the row that refuses it.
+// The parse of a frame (document 01, rows 2 to 6): its fields, or the row that refuses it.
 ghost use mathlib.Core.Path.{_≡_};
 ghost use Rattle.wire.specs.Parse.{operationNumbers, numbersOf, answerOf, answerRow, frameAnswer};
 use rules::Operation;
@@ -6,7 +6,7 @@ use rules::Operation;
 mod outcome;
 mod reader;
 
-// A request that no row from 3 to 7 refuses. Its nonce is time and count; n is the data's length.
+// A request that no row from 3 to 6 refuses. Its nonce is time and count; n is the data's length.
 pub struct ParsedRequest {
     pub operation: Operation,
     pub level: u8,
@@ -28,7 +28,7 @@ pub enum Parsed {
     Refused(u32),
 }
 
-// Rows 2 to 7, or the fields.
+// Rows 2 to 6, or the fields.
 pub fn parse(frame: &[u8]) -> Parsed
     ensures { λ r. ⌜ answerOf r ≡ frameAnswer (now (frame .entry)) ⌝ }
 {
@@ -48,46 +48,26 @@ pub fn row_of(p: Parsed) -> u32
     }
 }
 
-// The numbers of an operation: document 01's own, and A and B, 0 where the operation carries none.
+// An operation's number with its A and B.
+fn numbered(operation: u8, a: u32, b: u32) -> OperationNumbers
+    ensures { λ r. ⌜ r ≡ record { operation = operation; a = a; b = b } ⌝ }
+{
+    OperationNumbers { operation, a, b }
+}
+
+// The numbers of an operation: the documents' own, and A and B, 0 where the operation carries none.
 fn operation_numbers(o: Operation) -> OperationNumbers
     ensures { λ r. ⌜ r ≡ operationNumbers o ⌝ }
 {
     match o {
-        Operation::Read { offset, length } => OperationNumbers {
-            operation: 1,
-            a: offset,
-            b: length,
-        },
-        Operation::Write { offset, length } => OperationNumbers {
-            operation: 2,
-            a: offset,
-            b: length,
-        },
-        Operation::Look => OperationNumbers {
-            operation: 3,
-            a: 0,
-            b: 0,
-        },
-        Operation::Raise => OperationNumbers {
-            operation: 4,
-            a: 0,
-            b: 0,
-        },
-        Operation::Create { number, size } => OperationNumbers {
-            operation: 5,
-            a: number,
-            b: size,
-        },
-        Operation::Delete => OperationNumbers {
-            operation: 6,
-            a: 0,
-            b: 0,
-        },
-        Operation::SetKey { target } => OperationNumbers {
-            operation: 7,
-            a: target,
-            b: 0,
-        },
+        Operation::Read { offset, length } => numbered(1, offset, length),
+        Operation::Write { offset, length } => numbered(2, offset, length),
+        Operation::Look => numbered(3, 0, 0),
+        Operation::Raise => numbered(4, 0, 0),
+        Operation::Create { number, size } => numbered(5, number, size),
+        Operation::Delete => numbered(6, 0, 0),
+        Operation::SetKey { target } => numbered(7, target, 0),
+        Operation::LoadTable => numbered(8, 0, 0),
     }
 }
 

@@ -1,5 +1,5 @@
 // What the parse answers from a credential and a request: the fields of both, the operation with its own arguments; or
-// the row, of 3 to 7, that refuses them.
+// the row, of 3 to 6, that refuses them.
 ghost use mathlib.Core.Path.{_≡_};
 ghost use Prim.Native.Nat.{_+_, _≤_};
 ghost use lib.ListN.{length};
@@ -27,7 +27,8 @@ fn operation_of(op: u8, a: u32, b: u32) -> Operation
         4 => Operation::Raise,
         5 => Operation::Create { number: a, size: b },
         6 => Operation::Delete,
-        _ => Operation::SetKey { target: a },
+        7 => Operation::SetKey { target: a },
+        _ => Operation::LoadTable,
     }
 }
 

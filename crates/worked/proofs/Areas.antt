@@ -11,8 +11,9 @@ use Rattle.rules.specs.declared.Credential.{Credential}
 use Rattle.rules.specs.declared.Object.{Object}
 use Rattle.rules.specs.Demands.{after, State}
 use Rattle.rules.specs.Drive.{emptyPartition, partitionAt, sound}
+use Rattle.rules.specs.Needs.{defaultNeeds}
 use Rattle.worked.proofs.Frames.{ask, by, framesOpened, put, workingKey}
-use Rattle.worked.proofs.Signed.{after-with, AllKnown9, callOf, pass, said, said-with, TestCall, _then_}
+use Rattle.worked.proofs.Signed.{after-with, AllKnown9, callOf, digests, said, said-with, TestCall}
 
 -- ---- the drive: 400 bytes, objects 1 and 2 in versions 2 and 3, and the working key
 anywhere : State
@@ -31,6 +32,7 @@ anywhere = record {
       partitions = record {
         version = 1;
         last = 3;
+        needs = defaultNeeds;
         objects = record { number = 1; version = 2; size = 20; start = 0 } ∷ record { number = 2; version = 3; size = 75; start = 25 } ∷ [];
       } ∷ replicate 3 (emptyPartition 1);
     };
@@ -64,15 +66,7 @@ areas =
 
 areas-known : AllKnown9 anywhere areas
 unfolding anywhere areas creates deletes framesOpened
-areas-known =
-    pass workingKey creates (ask 5 0 1 3 5 0) []
-    then pass workingKey deletes (ask 6 0 2 0 0 0) []
-    then pass workingKey creates (ask 5 0 3 3 5 0) []
-    then pass workingKey creates (ask 5 0 4 4 12 0) []
-    then pass workingKey creates (ask 5 0 5 5 37 0) []
-    then pass workingKey creates (ask 5 0 6 5 36 0) []
-    then pass workingKey creates (ask 5 0 7 6 1 0) []
-    then tt
+areas-known = digests areas
 
 -- the row of each
 placed-or-20 : map (λ (l : List ℕ). getD l 0 0) (said anywhere (map callOf areas)) ≡ 20 ∷ 0 ∷ 0 ∷ 0 ∷ 20 ∷ 0 ∷ 20 ∷ []

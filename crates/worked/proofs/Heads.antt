@@ -19,9 +19,8 @@ use Rattle.worked.proofs.Frames.{
   setPartition,
   setsKey,
   setWorking,
-  workingKey,
 }
-use Rattle.worked.proofs.Signed.{callOf, pass, said, said-with, signed, TestCall, _then_}
+use Rattle.worked.proofs.Signed.{callOf, digests, said, said-with, signed, TestCall}
 
 headCredential : ℕ → ℕ → Credential
 headCredential object version = by 0 object version 5 0 0 10
@@ -52,16 +51,4 @@ both-heads : map (λ (l : List ℕ). getD l 0 0) (said begin (map callOf heads))
 unfolding heads headCredential headRead headLook framesOpened
 both-heads =
     ap (λ (a : List (List ℕ)). map (λ (l : List ℕ). getD l 0 0) a)
-    (said-with begin heads
-    (pass driveKey setPartition setsKey seed
-    then pass partitionKey setWorking setsKey seed
-    then pass workingKey (by 0 0 1 16 0 0 0) (ask 5 0 1 5 10 0) []
-    then pass workingKey (by 0 0 1 16 0 0 0) (ask 5 0 2 6 10 0) []
-    then pass workingKey (headCredential 5 2) headRead []
-    then pass workingKey (headCredential 6 3) headRead []
-    then pass workingKey (headCredential 5 2) headRead []
-    then pass workingKey (headCredential 6 3) headRead []
-    then pass workingKey (headCredential 5 2) headLook []
-    then pass workingKey (headCredential 0 1) headLook []
-    then pass workingKey (headCredential 0 1) headLook []
-    then tt))
+    (said-with begin heads (digests heads))

@@ -1,5 +1,5 @@
 -- A frame that carries its right digest passes row 9, whatever HMAC gives: so the checker can compute a list of calls
--- without computing HMAC. Used by Worked.antt, Heads.antt and Areas.antt.
+-- without computing HMAC. Used by Worked.antt, Heads.antt, Areas.antt and Tables.antt.
 use mathlib.Core.Path.{_∙_, _≡_, ap, refl, sym}
 use mathlib.Core.Bool.{Bool, cond, false, not, true, true≢false}
 use mathlib.Core.List.{[], _++_, _∷_, List, map}
@@ -23,12 +23,13 @@ use Rattle.rules.specs.Client.{frameOf}
 use Rattle.rules.specs.Demands.{after, answer, State, step}
 use Rattle.rules.specs.Drive.{Drive, format, formatRows, refresh, sameEntry, sound, soundObject, soundPartition}
 use Rattle.rules.specs.declared.Operation.{Operation}
-use Rattle.rules.specs.declared.Operation.the-variants.{Create, Delete, Look, Raise, Read, SetKey, Write}
+use Rattle.rules.specs.declared.Operation.the-variants.{Create, Delete, LoadTable, Look, Raise, Read, SetKey, Write}
 use Rattle.rules.specs.Frame.{covered, credentialAt, credentialBytes, entry, Fields, fields, memoryIndex, operation, operationOf, requestAt, requestBytes}
 use Rattle.rules.specs.Scope.{Scope, driveScope}
 use Rattle.rules.specs.Gate.{Answer, Call, gate, granted, afterRefusal, refused, wholeAnswer}
 use Rattle.rules.specs.Operations.{created, credentialKey, deleted, digestOf, extentStart, head, headed, keyIn, keyPut, keySet, namedObject, newKey, objectOf, placement, presentVersion, perform, raised, remember, reply, replyLength, sealed, signing, placementStart}
-use Rattle.rules.specs.Rows.{driveRows, frameRows, row1, row10, row11, row12, row13, row14, row15, row16, row17, row18, row19, row20, row21, row22, row8, row9, rows, scopeRows}
+use Rattle.rules.specs.Needs.{defaultNeeds, goodNeeds, needsAt, needUnder}
+use Rattle.rules.specs.Rows.{driveRows, frameRows, needOf, row1, row10, row11, row12, row13, row14, row15, row16, row17, row18, row19, row20, row21, row22, row31, row7, row8, row9, rows, scopeRows}
 
 -- ---- the n bytes of a list, one by one: so that its length is seen without its being opened
 unfoldable pub spread : ℕ → List ℕ → List ℕ
@@ -142,11 +143,6 @@ unfoldable pub AllKnown9 : State → List TestCall → Type 0
 AllKnown9 s [] = Unit {0}
 AllKnown9 s (v ∷ vs) = Known9 s v × AllKnown9 (leaves (answerWith s v)) vs
 
--- what is known of a list's first call, and of the others
-infixr 30 _then_
-pub _then_ : {A B : Type 0} → A → B → A × B
-a then b = (a, b)
-
 -- what the gate says to a list of calls: of each row and length, and of a grant the first sixteen bytes of the reply
 abbrev shows : Answer Drive → List ℕ
 shows a = a .row ∷ a .length ∷ take (min 16 (a .length)) (a .space)
@@ -186,11 +182,34 @@ unfolding rightDigest
 pass key c r payload = right-passes (rightDigest key c r payload)
     (length-hmac (hmac key (credentialBytes c)) (covered (r .level) (credentialBytes c) (requestBytes r) payload))
 
-pub fail : (key : List ℕ) (c : Credential) (r : Request) (payload : List ℕ)
+fail : (key : List ℕ) (c : Credential) (r : Request) (payload : List ℕ)
     → not (same (wrong (rightDigest key c r payload)) (rightDigest key c r payload)) ≡ true
 unfolding rightDigest
 fail key c r payload = wrong-fails (rightDigest key c r payload)
     (length-hmac (hmac key (credentialBytes c)) (covered (r .level) (credentialBytes c) (requestBytes r) payload))
+
+-- of a whole list: where the drive has each call's key when the call comes, `digests vs` is what `AllKnown9` asks for
+unfoldable pub Digest : TestCall → Type 0
+Digest (raw c) = Unit {0}
+Digest (signed key c r payload clock room) =
+    not (same (spread 32 (rightDigest key c r payload)) (rightDigest key c r payload)) ≡ false
+Digest (altered key c r payload clock room) =
+    not (same (wrong (rightDigest key c r payload)) (rightDigest key c r payload)) ≡ true
+
+unfoldable pub Digests : List TestCall → Type 0
+Digests [] = Unit {0}
+Digests (v ∷ vs) = Digest v × Digests vs
+
+digest : (v : TestCall) → Digest v
+unfolding Digest
+digest (raw c) = tt
+digest (signed key c r payload clock room) = pass key c r payload
+digest (altered key c r payload clock room) = fail key c r payload
+
+pub digests : (vs : List TestCall) → Digests vs
+unfolding Digests
+digests [] = tt
+digests (v ∷ vs) = (digest v, digests vs)
 
 -- ---- longer lists
 pub known-append : (s : State) (vs ws : List TestCall) → AllKnown9 s vs → AllKnown9 (run s vs) ws → AllKnown9 s (vs ++ ws)
@@ -220,6 +239,7 @@ setsAKey Raise = false
 setsAKey (Create a b) = false
 setsAKey Delete = false
 setsAKey (SetKey a) = true
+setsAKey LoadTable = false
 
 keys-after : (o : Operation) (s : Scope Object) (x : Fields) (m : List ℕ) → setsAKey o ≡ false
     → perform o s x m .scope .keys ≡ s .keys
@@ -231,6 +251,7 @@ keys-after Raise s x m h = refl
 keys-after (Create a b) s x m h = refl
 keys-after Delete s x m h = refl
 keys-after (SetKey a) s x m h = absurd (true≢false h)
+keys-after LoadTable s x m h = refl
 
 pub keys-with : (b : Bool) (d : Drive) (m : List ℕ) (c : Call) → setsAKey (operationOf (fields (c .frame))) ≡ false
     → gateWith b d m c .drive .tables .keys ≡ d .tables .keys
@@ -255,12 +276,12 @@ keys-with b d m c h = go (row is 0) (row is 1)
 
 -- ---- all that the gate computes with, HMAC apart: `unfolding opened` opens it
 unfoldable pub opened : ℕ
-unfolding part splice same every some? pairs keep update find change missing firstRow numberAt digit bigEndian readAll encode
-    credentialAt credentialBytes requestAt requestBytes fields covered operation entry memoryIndex soundObject
-    soundPartition sound sameEntry refresh formatRows format spot free next gaps better bestOf bestFit keyIn
-    signing credentialKey digestOf namedObject objectOf presentVersion extentStart placement placementStart head headed sealed
-    reply replyLength raised created deleted newKey keyPut keySet perform remember row1 row8 row9
-    row10 row11 row12 row13 row14 row15 row16 row17 row18 row19 row20 row21 row22 frameRows driveRows
-    scopeRows rows granted gate answer step spread rightDigest frame wrong forged gateWith callOf answerWith Known9
-    AllKnown9 saidWith run times
+unfolding part splice same every some? pairs keep update find change missing firstRow numberAt digit bigEndian readAll
+    encode credentialAt credentialBytes requestAt requestBytes fields covered operation entry memoryIndex soundObject
+    soundPartition sound sameEntry refresh formatRows format spot free next gaps better bestOf bestFit keyIn signing
+    credentialKey digestOf namedObject objectOf presentVersion extentStart placement placementStart head headed sealed
+    reply replyLength raised created deleted newKey keyPut keySet perform remember defaultNeeds needUnder needsAt
+    goodNeeds needOf row1 row7 row8 row9 row10 row11 row12 row13 row14 row15 row16 row17 row18 row19 row20 row21 row31
+    row22 frameRows driveRows scopeRows rows granted gate answer step spread rightDigest frame wrong forged gateWith
+    callOf answerWith Known9 AllKnown9 saidWith run times Digest Digests
 opened = 0

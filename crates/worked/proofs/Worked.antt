@@ -1,6 +1,6 @@
 -- A list of calls to a fresh drive of 1,024 bytes, F = 1, and what the gate answers, computed without computing HMAC. It
--- meets every row of the gate from 2 on but 21, and a grant of every operation; 21 needs another F, and row 1 another
--- record or medium.
+-- meets every row of document 01's gate from 2 on but 21, and a grant of each of its operations; 21 needs another F, and
+-- row 1 another record or medium.
 use mathlib.Core.Path.{_∙_, _≡_, ap, refl, subst, sym}
 use mathlib.Core.Bool.{false, not}
 use mathlib.Core.Option.{Option·getD, some}
@@ -48,7 +48,7 @@ use Rattle.worked.proofs.Signed.{
   altered,
   answerWith,
   callOf,
-  fail,
+  digests,
   frame,
   keys-with,
   known-append,
@@ -65,7 +65,6 @@ use Rattle.worked.proofs.Signed.{
   said-with,
   signed,
   spread,
-  _then_,
   times,
 }
 
@@ -112,35 +111,7 @@ firstFrames = 0
 
 first-known : AllKnown9 begin first
 unfolding firstFrames
-first-known =
-    tt
-    then tt
-    then tt
-    then tt
-    then tt
-    then tt
-    then tt
-    then fail driveKey setPartition setsKey seed
-    then pass driveKey setPartition setsKey seed
-    then pass driveKey setPartition setsKey seed
-    then pass partitionKey setWorking setsKey seed
-    then pass workingKey (by 0 0 1 16 0 0 0) (ask 5 0 2 5 10 0) []
-    then pass workingKey (by 0 0 1 16 0 0 0) (ask 5 0 3 5 1 0) []
-    then pass workingKey (by 0 0 1 16 0 0 0) (ask 5 0 3 6 241 0) []
-    then pass workingKey (by 0 5 2 2 0 0 10) (ask 2 0 4 3 4 4) (1 ∷ 2 ∷ 3 ∷ 4 ∷ [])
-    then pass workingKey (by 0 5 2 1 0 0 10) (ask 1 0 5 2 6 0) []
-    then pass workingKey (by 0 5 1 1 0 0 10) (ask 1 0 6 2 6 0) []
-    then pass workingKey (by 0 5 2 2 0 0 10) (ask 1 0 6 2 6 0) []
-    then pass workingKey (by 0 6 2 1 0 0 10) (ask 1 0 6 2 6 0) []
-    then pass workingKey (by 0 5 2 1 0 0 10) (ask 1 0 6 8 4 0) []
-    then pass workingKey (by 0 5 2 1 0 0 12) (ask 1 0 6 8 4 0) []
-    then pass workingKey (by 0 5 2 8 0 0 0) (ask 4 0 7 0 0 0) []
-    then pass workingKey (by 0 5 3 4 2 0 0) (ask 3 2 8 0 0 0) []
-    then pass workingKey (by 0 5 3 1 0 0 10) (ask 1 0 9 2 6 0) []
-    then pass workingKey (by 0 5 3 32 0 0 0) (ask 6 0 9 0 0 0) []
-    then pass workingKey (by 0 0 1 16 0 0 0) (ask 5 0 10 5 10 0) []
-    then pass workingKey (by 0 5 4 1 0 0 10) (ask 1 0 11 2 6 0) []
-    then tt
+first-known = digests first
 
 -- row, length and the reply of each
 worked : said begin (map callOf first)
@@ -236,10 +207,6 @@ looks-keep k s e =
     ap (λ (ks : Keys). keyIn ks 0 0) (keys-with false (s .drive) (s .medium) (callOf (looks k))
     refl) ∙ e
 
-looks-known : (T : ℕ) → not (same (spread 32 (rightDigest workingKey (by 0 0 1 4 0 0 0) (looksAt T) []))
-    (rightDigest workingKey (by 0 0 1 4 0 0 0) (looksAt T) [])) ≡ false
-looks-known T = pass workingKey (by 0 0 1 4 0 0 0) (looksAt T) []
-
 all-known : AllKnown9 begin (first ++ filling)
 unfolding allFrames
 all-known =
@@ -248,12 +215,11 @@ all-known =
     (known-times 15 creates HasKey (λ k s e. fill-known 16 5 (20 + k) (20 + k) 1 s e) creates-keep
     (run begin first) refl)
     (known-append (run (run begin first) (times 15 creates)) crowded (times 40 looks ++ last)
-    (pass workingKey (by 0 0 1 16 0 0 0) (ask 5 0 90 90 1 0) [], tt)
+    (digests crowded)
     (known-append (run (run (run begin first) (times 15 creates)) crowded) (times 40 looks) last
     (known-times 40 looks HasKey (λ k s e. fill-known 4 3 (100 + k) 0 0 s e) looks-keep
-    (run (run (run begin first) (times 15 creates)) crowded) refl) (
-    looks-known 100 then looks-known 100 then looks-known 5101 then looks-known 100 then looks-known 5101 then tt
-    ))))
+    (run (run (run begin first) (times 15 creates)) crowded) refl)
+    (digests last))))
 
 filled : map (λ (l : List ℕ). getD l 0 0) (drop 27 (said begin (map callOf (first ++ filling))))
     ≡ replicate 15 0 ++ (19 ∷ (replicate 40 0 ++ (22 ∷ 22 ∷ 0 ∷ 11 ∷ 10 ∷ [])))
@@ -279,12 +245,7 @@ no-version : map (λ (l : List ℕ). getD l 0 0) (said spent (map callOf newest)
 unfolding spent newest firstFrames
 no-version =
     ap (λ (a : List (List ℕ)). map (λ (l : List ℕ). getD l 0 0) a)
-    (said-with spent newest
-    (pass driveKey setPartition setsKey seed
-    then pass partitionKey setWorking setsKey seed
-    then pass workingKey (by 0 0 4_294_967_295 16 0 0 0) (ask 5 0 2 5 1 0) []
-    then pass workingKey (by 0 0 4_294_967_295 8 0 0 0) (ask 4 0 2 0 0 0) []
-    then tt))
+    (said-with spent newest (digests newest))
 
 -- ---- row 1: a medium that is too short, and a record that is not sound; the drive comes back unchanged, with its mark
 empty : ℕ → Call

@@ -154,4 +154,29 @@ mod tests {
         let most = Request { b: 4_194_304, ..r };
         assert_eq!(check(&c, &most.bytes(), &key, &reply), (30, 0, 0));
     }
+
+    /// Change 5: "row 7 at the client end [keeps] document 01's rule, operation 8 treated as 7".
+    #[test]
+    fn operation_8_at_the_client_end() {
+        let c = Credential { slot: 2, object: 0, version: 0, least: 0, rights: 0, ..credential() };
+        let r = Request { mark: REQUEST_MARK, operation: LOAD, level: 1, time: 0, count: 0, a: 0, b: 0, n: 21 };
+        let built = |c: &Credential, r: &Request| build(&c.bytes(), &r.bytes(), &vec![0; r.n as usize], &[3; 32], &mut [0; 200]);
+        assert_eq!([built(&c, &r), built(&c, &Request { level: 2, ..r.clone() })], [(0, 117); 2]); // the table need not be good
+        assert_eq!(built(&c, &Request { level: 0, ..r.clone() }), (28, 0));
+        assert_eq!(built(&Credential { least: 2, ..c.clone() }, &r), (28, 0));
+        for n in [0, 16, 20, 22] {
+            assert_eq!(built(&c, &Request { n, ..r.clone() }), (28, 0), "{n} bytes");
+        }
+        for slot in [0, 1, 3, 4] {
+            assert_eq!(built(&Credential { slot, partition: 0, ..c.clone() }, &r), (28, 0), "slot {slot}");
+        }
+        assert_eq!(built(&Credential { object: 1, ..c.clone() }, &r), (28, 0));
+        assert_eq!(built(&Credential { version: 1, ..c.clone() }, &r), (28, 0));
+        assert_eq!([built(&c, &Request { a: 1, ..r.clone() }), built(&c, &Request { b: 1, ..r.clone() })], [(28, 0); 2]);
+        assert_eq!(built(&c, &Request { operation: 9, ..r.clone() }), (28, 0));
+        // "empty result"
+        let checked = |reply: &[u8]| check(&c.bytes(), &r.bytes(), &[3; 32], reply);
+        assert_eq!(checked(&[0x4c, 0x41, 8, 1, 0, 0, 0, 0]), (0, 8, 0));
+        assert_eq!([checked(&[0x4c, 0x41, 8, 1, 0, 0, 0, 1, 0]), checked(&[0x4c, 0x41, 7, 1, 0, 0, 0, 0])], [(30, 0, 0); 2]);
+    }
 }

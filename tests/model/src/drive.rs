@@ -2,6 +2,7 @@
 
 use crate::digest::LONGEST;
 use crate::records::{Credential, Request};
+use crate::table::{needed, Need, Table};
 
 pub type Key = [u8; 32];
 
@@ -48,6 +49,7 @@ pub struct Partition {
     pub last_given: u32,
     pub objects: Vec<Object>, // "in order of creation"
     pub memory: Vec<Nonce>,   // for slots 0–2
+    pub table: Table,         // change 5: at first "document 01's rule"
 }
 
 #[derive(Clone, Debug, PartialEq, Eq, Default)]
@@ -114,6 +116,13 @@ impl Drive {
         }
     }
 
+    /// What an operation needs under a credential, by the table of its partition where the table is asked.
+    pub fn need(&self, c: &Credential, operation: u8) -> Option<Need> {
+        let start = Table::default();
+        let table = self.partitions.get(c.partition as usize).map_or(&start, |p| &p.table);
+        needed(table, c.slot, operation)
+    }
+
     /// The mark becomes "the larger of itself and the clock reading", and every memory keeps "exactly its entries with
     /// T + 5,000 at least the mark".
     pub fn pass_time(&mut self, clock: u64) {
@@ -128,7 +137,7 @@ impl Drive {
 
     /// "A drive record is sound when M is at most 16,777,216, each partition has at most 16 objects, with different numbers
     /// from 1, nonempty disjoint areas inside its quarter and no version over the last given, and each memory has at most 64
-    /// entries."
+    /// entries." It says nothing of an operation table, which may be any.
     pub fn sound(&self) -> bool {
         let quarter = self.quarter() as u64;
         let end = |o: &Object| o.start as u64 + o.size as u64;
@@ -216,7 +225,8 @@ pub fn areas(objects: &[Object]) -> Vec<(u32, u32)> {
 
 /// "Format takes a medium, first version F, master and drive key (32 bytes each); it zeroes the medium, of M bytes."
 pub fn format(medium: &mut [u8], f: u32, master: &[u8], drive: &[u8]) -> (u8, Drive) {
-    // "24. Format: M is over 16,777,216; the drive returned has no key, object or entry, and M, versions and mark are 0."
+    // "24. Format: M is over 16,777,216; the drive returned has no key, object or entry, and M, versions and mark are 0." Change 5:
+    // the table is "in row 24's drive too .. document 01's rule", as a `Table::default` is.
     if medium.len() > MOST_MEDIUM {
         return (24, Drive::default());
     }
@@ -384,6 +394,19 @@ mod tests {
         assert_eq!(medium[..10], [0, 0, 0, 0, 0, 0, 0, 0, 0, 7]);
     }
 
+    /// Change 5: the table "starts, in row 24's drive too, as document 01's rule".
+    #[test]
+    fn tables_of_a_format() {
+        let key = [0; 32];
+        let mut medium = vec![7; 9];
+        let drives = [(1, &key[..]), (0, &key), (1, &key[1..])].map(|(f, master)| format(&mut medium, f, master, &key).1);
+        for partition in drives.iter().chain([&Drive::default()]).flat_map(|drive| &drive.partitions) {
+            for (operation, rights, level) in [(1, 1, 0), (2, 2, 0), (3, 4, 0), (4, 8, 0), (5, 16, 0), (6, 32, 0), (7, 64, 1)] {
+                assert_eq!(partition.table.line(operation), Some(Need { mask: rights, level }));
+            }
+        }
+    }
+
     /// Each clause of the sentence, broken alone. Change 3: "row 1 asks for no such step".
     #[test]
     fn soundness() {
@@ -413,5 +436,16 @@ mod tests {
         drive.partitions[1].memory = vec![entry; 65];
         assert!(!drive.sound());
         assert!(!Drive { size: MOST_MEDIUM + 1, ..with(vec![]) }.sound());
+    }
+
+    /// No clause of the sentence speaks of the table.
+    #[test]
+    fn a_sound_record_may_hold_any_table() {
+        let mut medium = vec![0; 400];
+        let mut drive = format(&mut medium, 1, &[0; 32], &[0; 32]).1;
+        for need in [Need { mask: 0, level: 0 }, Need { mask: u32::MAX, level: u32::MAX }, Need { mask: 1 << 7, level: 3 }] {
+            drive.partitions[2].table = Table([need; 7]);
+            assert!(drive.sound());
+        }
     }
 }

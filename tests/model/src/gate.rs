@@ -1,8 +1,9 @@
-//! The gate: rows 1 to 23, the seven operations, the reply.
+//! The gate: rows 1 to 23 and 31, the eight operations, the reply.
 
 use crate::digest::hmac;
 use crate::drive::*;
 use crate::records::*;
+use crate::table::{good_data, Table};
 
 /// Puts a frame to the gate. Returns the row (0 for a grant) and the reply's length.
 pub fn gate(drive: &mut Drive, medium: &mut [u8], frame: &[u8], clock: u64, space: &mut [u8]) -> (u8, usize) {
@@ -35,7 +36,7 @@ pub fn gate_with_rows(
     (rows, reply.len())
 }
 
-/// Rows 2 to 23 that apply, in order. The drive's mark and memories are already those of this call.
+/// Rows 2 to 23 and 31 that apply, in their order. The drive's mark and memories are already those of this call.
 fn rows_that_apply(drive: &Drive, frame: &[u8], space: usize) -> Vec<u8> {
     // "2. The frame is under 96 bytes."
     if frame.len() < 96 {
@@ -47,6 +48,7 @@ fn rows_that_apply(drive: &Drive, frame: &[u8], space: usize) -> Vec<u8> {
     let (signed_all, digest) = frame.split_at(frame.len() - 32);
     // "The digest is HMAC under the credential key over credential and request, and the data too from level 1."
     let signed = if r.level >= 1 { signed_all } else { &frame[..64] };
+    let data = &signed_all[64..];
 
     let op = r.operation;
     let none = Partition::default();
@@ -57,6 +59,8 @@ fn rows_that_apply(drive: &Drive, frame: &[u8], space: usize) -> Vec<u8> {
     let key = drive.key(c.slot, c.partition);
     // Change 2: "Each memory entry, and so row 12's nonce, has the credential's object too."
     let nonce = Nonce::of(&c, &r);
+    // Change 5: the table "that earlier grants loaded", or document 01's rule.
+    let need = drive.need(&c, op);
 
     // "Sums in rules are whole numbers and never wrap."
     let mark = drive.mark as u128;
@@ -69,12 +73,12 @@ fn rows_that_apply(drive: &Drive, frame: &[u8], space: usize) -> Vec<u8> {
         (3, row_3(&c, &r)),
         // A field is outside the values above.
         (4, row_4(&c, &r)),
-        // n is not 0, B, 16 by the operation, or the frame is not as long as its parts together, 96 + n bytes.
+        // n is not 0, B, 16, 21 by the operation, or the frame is not as long as its parts together, 96 + n bytes.
         (5, row_5_records(&r) || frame.len() as u64 != 96 + r.n as u64),
         // Operation misfits.
         (6, row_6(&c, &r)),
-        // The level is under the credential's least, or is 0 with operation 7.
-        (7, row_7(&c, &r)),
+        // The level is under the credential's least, or under what the operation needs.
+        (7, row_7(&c, &r, need)),
         // The named key was never set.
         (8, key.is_none()),
         // The digest differs.
@@ -85,8 +89,8 @@ fn rows_that_apply(drive: &Drive, frame: &[u8], space: usize) -> Vec<u8> {
         (11, t + 5_000 < mark || t > mark + 5_000),
         // Its memory holds the nonce.
         (12, memory.contains(&nonce)),
-        // The right is missing. "Operation k needs rights bit k − 1."
-        (13, (1..=7).contains(&op) && (c.rights >> (op - 1)) & 1 == 0),
+        // The right is missing. Change 5: "every right in the mask being needed".
+        (13, need.is_some_and(|need| !need.rights_met(c.rights))),
         // The object, not 0, does not exist in the partition.
         (14, c.object != 0 && object.is_none()),
         // Operations 1–6: the version is not the present one.
@@ -103,6 +107,8 @@ fn rows_that_apply(drive: &Drive, frame: &[u8], space: usize) -> Vec<u8> {
         (20, op == CREATE && chosen_start(drive.quarter(), &areas(&partition.objects), r.b).is_none()),
         // Operations 4, 5: the partition has given version 4,294,967,295.
         (21, (op == RAISE || op == CREATE) && partition.last_given == u32::MAX),
+        // Change 5: "Turned away: 31, after row 21, when the table is not good."
+        (31, op == LOAD && !good_data(data)),
         // The memory holds 64 entries; here and in row 12 outlived entries have gone first.
         (22, memory.len() >= MOST_ENTRIES),
         // The reply space is too short.
@@ -176,6 +182,11 @@ fn grant(drive: &mut Drive, medium: &mut [u8], frame: &[u8]) -> Vec<u8> {
             }
             vec![]
         }
+        // Change 5: "Operation 8 .. loads [the partition's table] from 21 data bytes"; "empty result".
+        LOAD => {
+            drive.partitions[p].table = Table::read(data);
+            vec![]
+        }
         _ => unreachable!(),
     };
 
@@ -202,7 +213,7 @@ pub(crate) mod tests {
     use crate::client::{build, issue};
 
     /// A drive of one 100 byte quarter after another, with black key of partition 0 set by hand and one object.
-    fn drive() -> (Drive, Vec<u8>) {
+    pub(crate) fn drive() -> (Drive, Vec<u8>) {
         let mut medium = vec![0; 400];
         let (row, mut drive) = format(&mut medium, 1, &[0; 32], &[1; 32]);
         assert_eq!(row, 0);
@@ -233,6 +244,7 @@ pub(crate) mod tests {
         let n = match operation {
             WRITE => b,
             SET_KEY => 16,
+            LOAD => 21,
             _ => 0,
         };
         Request { mark: REQUEST_MARK, operation, level: 2, time: 10_000, count: 0, a, b, n }
@@ -242,7 +254,7 @@ pub(crate) mod tests {
         frame_under(&[5; 32], c, r, data)
     }
 
-    fn frame_under(key: &Key, c: &Credential, r: &Request, data: &[u8]) -> Vec<u8> {
+    pub(crate) fn frame_under(key: &Key, c: &Credential, r: &Request, data: &[u8]) -> Vec<u8> {
         let mut record = [0; 36];
         let (row, key) = issue(key, c, &mut record);
         assert_eq!(row, 0);

@@ -4,6 +4,7 @@
 use crate::digest::hmac;
 use crate::drive::{areas, chosen_start, Drive, Key, Object};
 use crate::records::*;
+use crate::table::{needed, Need, Table};
 use std::collections::HashSet;
 
 pub struct Ledger {
@@ -22,12 +23,20 @@ struct Page {
     version: u32,
     last_given: u32,
     objects: Vec<(Object, Vec<u8>)>, // "each with number, version, area and bytes"
+    table: Table,                    // change 5: "the table that earlier grants loaded, which the ledger holds too"
+}
+
+impl Page {
+    fn position(&self, number: u32) -> Option<usize> {
+        self.objects.iter().position(|(o, _)| o.number == number)
+    }
 }
 
 impl Ledger {
-    /// "Start: mark 0; master and drive key set, no other; each partition's version and last given are F; no object."
+    /// "Start: mark 0; master and drive key set, no other; each partition's version and last given are F; no object." Change 5: the
+    /// table "starts .. as document 01's rule".
     pub fn new(m: usize, f: u32, master: Key, drive: Key) -> Ledger {
-        let page = Page { key: None, working: [None; 2], version: f, last_given: f, objects: vec![] };
+        let page = Page { key: None, working: [None; 2], version: f, last_given: f, objects: vec![], table: Table::default() };
         Ledger { quarter: (m / 4) as u32, mark: 0, master, drive, partitions: vec![page; 4], grants: HashSet::new() }
     }
 
@@ -40,6 +49,11 @@ impl Ledger {
         self.partitions[partition].last_given = last_given;
     }
 
+    /// For such a list too: what an operation needs by the table of such a record.
+    pub fn need(&mut self, partition: usize, operation: u8, need: Need) {
+        self.partitions[partition].table.0[operation as usize - 1] = need;
+    }
+
     /// Feeds one call that was not refused by row 1, and checks the grant against the sentences of demand 3. `reply` is the
     /// reply written.
     pub fn call(&mut self, frame: &[u8], clock: u64, row: u8, reply: &[u8]) {
@@ -50,40 +64,56 @@ impl Ledger {
         }
         let c = Credential::read(&frame[..36]);
         let r = Request::read(&frame[36..64]);
-        let data = &frame[64..frame.len() - 32];
-        let mark = self.mark;
-        let key = match c.slot {
-            4 => Some(self.master),
-            3 => Some(self.drive),
-            2 => self.partitions[c.partition as usize].key,
-            s => self.partitions[c.partition as usize].working[s as usize],
-        };
 
         // "No two grants in the whole list share nonce memory, key slot, holder, time and count." Change 2: "What a list of grants
         // never repeats is then nonce memory, slot, holder, time, count and object together."
         let memory = if c.slot >= 3 { 4 } else { c.partition };
         let fresh = self.grants.insert((memory, c.slot, c.holder, r.time, r.count, c.object));
         assert!(fresh, "a nonce is granted twice");
+        self.keeps(frame, &c, &r);
+        self.enter(frame, &c, &r, reply);
+    }
 
-        // "Rights, expiry, range, key and version are kept when none of rows 8–10 and 13–17 applies".
-        let key = key.expect("row 8");
+    fn key(&self, c: &Credential) -> Option<Key> {
+        match c.slot {
+            4 => Some(self.master),
+            3 => Some(self.drive),
+            2 => self.partitions[c.partition as usize].key,
+            s => self.partitions[c.partition as usize].working[s as usize],
+        }
+    }
+
+    /// "Rights, expiry, range, key and version are kept when none of rows 8–10 and 13–17 applies, judged by the ledger before the call,
+    /// but with the mark that this call sets." Change 5: "a grant keeps to the table that earlier grants loaded", so that row 7 is one
+    /// of these rows.
+    fn keeps(&self, frame: &[u8], c: &Credential, r: &Request) {
+        let page = &self.partitions[c.partition as usize];
+        let need = needed(&page.table, c.slot, r.operation).unwrap();
+        assert!(!row_7(c, r, Some(need)), "row 7");
+        let key = self.key(c).expect("row 8");
         let signed = if r.level > 0 { &frame[..frame.len() - 32] } else { &frame[..64] };
         assert_eq!(hmac(&hmac(&key, &frame[..36]), signed), frame[frame.len() - 32..], "row 9");
-        assert!(mark <= c.expiry, "row 10");
-        assert!(c.rights & (1 << (r.operation - 1)) != 0, "row 13");
-        let page = &mut self.partitions[c.partition as usize];
-        let at = page.objects.iter().position(|(o, _)| o.number == c.object);
+        assert!(self.mark <= c.expiry, "row 10");
+        assert!(need.rights_met(c.rights), "row 13");
+        let at = page.position(c.object);
         assert!(c.object == 0 || at.is_some(), "row 14");
-        let sum = r.a as u64 + r.b as u64;
+        // Change 5: "a grant of operation 8, like one that sets a key, is bound to no version".
         if r.operation <= 6 {
             let version = at.map_or(page.version, |i| page.objects[i].0.version);
             assert_eq!(c.version, version, "row 15");
         }
+        let sum = r.a as u64 + r.b as u64;
         if r.operation <= 2 {
             assert!(c.first <= r.a && sum <= c.end as u64, "row 16");
             assert!(sum <= page.objects[at.unwrap()].1.len() as u64, "row 17");
         }
+    }
 
+    /// "A grant then does as follows."
+    fn enter(&mut self, frame: &[u8], c: &Credential, r: &Request, reply: &[u8]) {
+        let data = &frame[64..frame.len() - 32];
+        let page = &mut self.partitions[c.partition as usize];
+        let at = page.position(c.object);
         let (a, b) = (r.a as usize, r.b as usize);
         match r.operation {
             // "A granted read's result is the bytes from A up to A + B of the ledger's object."
@@ -112,20 +142,24 @@ impl Ledger {
             DELETE => {
                 page.objects.remove(at.unwrap());
             }
-            // "keys change by operation 7, from the ledger's signing key"
-            _ => {
-                let new = hmac(&key, &frame[36..80]);
-                match c.slot {
-                    4 => self.drive = new,
-                    3 => self.partitions[a].key = Some(new),
-                    _ => self.partitions[c.partition as usize].working[a] = Some(new),
-                }
-            }
+            // Change 5: "Operation 8 .. loads it from 21 data bytes".
+            LOAD => page.table = Table::read(data),
+            _ => self.set_key(frame, c, a),
+        }
+    }
+
+    /// "keys change by operation 7, from the ledger's signing key"
+    fn set_key(&mut self, frame: &[u8], c: &Credential, a: usize) {
+        let new = hmac(&self.key(c).unwrap(), &frame[36..80]);
+        match c.slot {
+            4 => self.drive = new,
+            3 => self.partitions[a].key = Some(new),
+            _ => self.partitions[c.partition as usize].working[a] = Some(new),
         }
     }
 
     /// "After every call the drive's mark, keys, versions, last versions given and objects are the ledger's, objects in its
-    /// order, and each object's area of the medium holds its bytes in the ledger."
+    /// order, and each object's area of the medium holds its bytes in the ledger." Change 5: and the tables.
     pub fn agrees(&self, drive: &Drive, medium: &[u8]) {
         assert_eq!(drive.mark, self.mark);
         assert_eq!((drive.master, drive.drive), (Some(self.master), Some(self.drive)));
@@ -133,6 +167,7 @@ impl Ledger {
             let real = &drive.partitions[p];
             assert_eq!((real.key, real.working), (page.key, page.working));
             assert_eq!((real.version, real.last_given), (page.version, page.last_given));
+            assert_eq!(real.table, page.table);
             assert!(real.objects.iter().eq(page.objects.iter().map(|(o, _)| o)));
             for (o, bytes) in &page.objects {
                 let from = p * self.quarter as usize + o.start as usize;
@@ -205,6 +240,64 @@ mod tests {
     fn an_object_of_a_record_has_its_bytes() {
         let (ledger, drive, mut medium) = joined();
         medium[123] = 9;
+        ledger.agrees(&drive, &medium);
+    }
+
+    /// Feeds a granted load, under the key of partition 0, of a table by which reads need look too and writes level 2.
+    fn loaded() -> Ledger {
+        let mut ledger = ledger();
+        ledger.partitions[0].key = Some([5; 32]);
+        let mut table = Table::default();
+        table.0[0] = Need { mask: 5, level: 0 };
+        table.0[1] = Need { mask: 2, level: 2 };
+        let c = Credential { slot: 2, object: 0, version: 0, ..credential() };
+        ledger.call(&frame(&c, &request(LOAD, 0, 0), &table.bytes()), 10_000, 0, &[]);
+        assert_eq!([&ledger.partitions[0].table, &ledger.partitions[1].table], [&table, &Table::default()]);
+        ledger
+    }
+
+    /// A granted look, read or write of a byte after that load.
+    fn granted_after_a_load(partition: u8, rights: u16, operation: u8, level: u8) {
+        let c = Credential { partition, rights, ..credential() };
+        let r = Request { level, b: (operation != LOOK) as u32, n: (operation == WRITE) as u32, ..request(operation, 0, 0) };
+        loaded().call(&frame(&c, &r, &vec![7; r.n as usize]), 10_000, 0, &[0; 9]);
+    }
+
+    #[test]
+    fn grants_keep_to_the_table() {
+        granted_after_a_load(0, 5, READ, 0);
+        granted_after_a_load(1, 1, READ, 0);
+        granted_after_a_load(0, 2, WRITE, 2);
+        granted_after_a_load(1, 2, WRITE, 0);
+        granted_after_a_load(0, 4, LOOK, 0);
+    }
+
+    #[test]
+    #[should_panic(expected = "row 13")]
+    fn a_grant_without_every_right_of_the_mask() {
+        granted_after_a_load(0, 1, READ, 2);
+    }
+
+    #[test]
+    #[should_panic(expected = "row 7")]
+    fn a_grant_under_the_level_of_the_table() {
+        granted_after_a_load(0, 0x7f, WRITE, 1);
+    }
+
+    #[test]
+    #[should_panic]
+    fn a_drive_with_another_table() {
+        let (ledger, mut drive, medium) = joined();
+        drive.partitions[3].table.0[4].level = 1;
+        ledger.agrees(&drive, &medium);
+    }
+
+    #[test]
+    fn a_need_of_a_record_joins() {
+        let (mut ledger, mut drive, medium) = joined();
+        let odd = Need { mask: 1 << 31, level: 256 };
+        drive.partitions[3].table.0[6] = odd;
+        ledger.need(3, 7, odd);
         ledger.agrees(&drive, &medium);
     }
 

@@ -1,4 +1,6 @@
-//! The two records of a frame, and what they say by themselves: rows 3 to 7.
+//! The two records of a frame, and what they say: rows 3 to 6 by themselves, row 7 with what the operation needs.
+
+use crate::table::{document_01, Need, TABLE_BYTES};
 
 /// "Credential, 36 bytes". Any 36 bytes are one of these, and back: the mark and the zero byte are kept as fields.
 #[derive(Clone, Debug, PartialEq, Eq)]
@@ -21,7 +23,7 @@ pub struct Credential {
 #[derive(Clone, Debug, PartialEq, Eq)]
 pub struct Request {
     pub mark: [u8; 2], // 0–1 mark 4C 52
-    pub operation: u8, // 2 operation 1–7
+    pub operation: u8, // 2 operation 1–7; change 5: or 8
     pub level: u8,     // 3 level 0–2
     pub time: u64,     // 4–11 time T, milliseconds
     pub count: u32,    // 12–15 count
@@ -41,6 +43,8 @@ pub const RAISE: u8 = 4;
 pub const CREATE: u8 = 5;
 pub const DELETE: u8 = 6;
 pub const SET_KEY: u8 = 7;
+/// Change 5: "Operation 8 .. loads [the table] from 21 data bytes".
+pub const LOAD: u8 = 8;
 
 fn four(bytes: &[u8], at: usize) -> u32 {
     u32::from_be_bytes(bytes[at..at + 4].try_into().unwrap())
@@ -118,7 +122,7 @@ impl Request {
             READ => self.b as u64, // "result the B bytes"
             LOOK => 8,             // "result size .. and version, four bytes each"
             RAISE | CREATE => 4,   // "result that version in four bytes"
-            _ => 0,                // "Result empty"
+            _ => 0,                // "Result empty"; change 5: "empty result"
         }
     }
 
@@ -149,22 +153,23 @@ pub fn row_4_credential(c: &Credential) -> bool {
         || ((c.slot == 3 || c.slot == 4) && c.partition != 0)
 }
 
-/// Row 4.
+/// Row 4. Change 5: "Rows 4 to 7 and 13 read accordingly", so that operations are 1 to 8.
 pub fn row_4(c: &Credential, r: &Request) -> bool {
-    row_4_credential(c) || r.operation < 1 || r.operation > 7 || r.level > 2 || r.n > 1_048_576
+    row_4_credential(c) || r.operation < 1 || r.operation > LOAD || r.level > 2 || r.n > 1_048_576
 }
 
-/// Row 5, the half that the records show: "n is not 0 for operations 1 and 3–6, B for 2, 16 for 7".
+/// Row 5, the half that the records show: "n is not 0 for operations 1 and 3–6, B for 2, 16 for 7". Change 5: 21 for 8.
 pub fn row_5_records(r: &Request) -> bool {
     match r.operation {
         1 | 3 | 4 | 5 | 6 => r.n != 0,
         2 => r.n != r.b,
         7 => r.n != 16,
+        8 => r.n as usize != TABLE_BYTES,
         _ => false,
     }
 }
 
-/// Row 6: "Operation misfits".
+/// Row 6: "Operation misfits". Change 5: "Operation 8 (slot 2 ..; object, version, A and B 0 ..)".
 pub fn row_6(c: &Credential, r: &Request) -> bool {
     let op = r.operation;
     // "1–6 with slot over 1; 7 with slot under 2 or version not 0"
@@ -181,16 +186,22 @@ pub fn row_6(c: &Credential, r: &Request) -> bool {
         || (op == 7 && c.slot == 2 && r.a > 1)
         || (op == 7 && c.slot == 3 && r.a > 3)
         || (op == 7 && c.slot == 4 && r.a > 0)
+        || (op == LOAD && (c.slot != 2 || c.object != 0 || c.version != 0 || r.a != 0 || r.b != 0))
 }
 
-/// Row 7: "The level is under the credential's least, or is 0 with operation 7."
-pub fn row_7(c: &Credential, r: &Request) -> bool {
-    r.level < c.least || (r.level == 0 && r.operation == 7)
+/// Row 7: "The level is under the credential's least, or is 0 with operation 7." Change 5: or it is under what the operation needs.
+pub fn row_7(c: &Credential, r: &Request, need: Option<Need>) -> bool {
+    r.level < c.least || need.is_some_and(|need| !need.level_met(r.level))
+}
+
+/// Change 5: "row 7 at the client end [keeps] document 01's rule, operation 8 treated as 7".
+pub fn row_7_client(c: &Credential, r: &Request) -> bool {
+    row_7(c, r, document_01(r.operation))
 }
 
 /// "one of rows 3–7 met by the records", for builder and reply check.
 pub fn records_refused(c: &Credential, r: &Request) -> bool {
-    row_3(c, r) || row_4(c, r) || row_5_records(r) || row_6(c, r) || row_7(c, r)
+    row_3(c, r) || row_4(c, r) || row_5_records(r) || row_6(c, r) || row_7_client(c, r)
 }
 
 #[cfg(test)]

@@ -67,6 +67,7 @@ mod tests {
     use crate::client::{build, issue};
     use crate::digest::{hmac, Digest};
     use crate::records::*;
+    use crate::table::Table;
 
     fn record(frame: &[u8]) -> Vec<u8> {
         [&[0x4c, 0x49][..], &[0; 8], &(frame.len() as u32).to_be_bytes(), frame].concat()
@@ -197,6 +198,16 @@ mod tests {
             printed_of(&[drive_key, partition_key, working_key, repeated, other_key]),
             "0 0 2\n0 9 1\n0 12 1\n2 0 1\ncalls 5\n"
         );
+    }
+
+    /// Row 31 counts under the partition whose table is bad, behind the lower rows.
+    #[test]
+    fn report_of_row_31() {
+        let (partition_key, made) = set_key(0, 3, 2, &[1; 32]);
+        let load = |count, data: &[u8]| frame(&credential(2, 2), &Request { count, ..request(LOAD, 0, 21) }, data, &made);
+        let good = Table::default().bytes();
+        let calls = [partition_key, load(1, &[0; 21]), load(2, &good), load(2, &good), load(3, &[255; 21])];
+        assert_eq!(printed_of(&calls), "0 0 1\n2 0 1\n2 12 1\n2 31 2\ncalls 5\n");
     }
 
     /// Partitions rise, `none` is last, and in each the rows rise as numbers, whatever the order of the calls.

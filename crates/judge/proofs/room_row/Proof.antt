@@ -10,17 +10,19 @@ returns c =
     let at19 = c .before .before in
     let at20 = at19 .before .before in
     let at21 = at20 .before .before in
-    let at22 = at21 .before .before in
+    let at31 = at21 .before .before in
+    let at22 = at31 .before in
     let at23 = at22 .before in
     let found = at23 .before .before in
     rw (
-      c .pick6 .ensures,
-      at19 .pick5 .ensures,
+      c .pick7 .ensures,
+      at19 .pick6 .ensures,
       at19 .before .object-count .ensures .0,
-      at20 .pick4 .ensures,
+      at20 .pick5 .ensures,
       at20 .before .is-missing .ensures,
-      at21 .pick3 .ensures,
+      at21 .pick4 .ensures,
       at21 .before .gives-version .ensures,
+      at31 .pick3 .ensures,
       at22 .pick2 .ensures,
       at23 .pick .ensures,
       found .number-at .ensures,
@@ -32,4 +34,4 @@ room-row-spec =
     tie.close
     (tie.spec
     (λ c κs. search needs) (λ c κs. search needs) (λ c κs. search needs) (λ c κs. search needs) (λ c κs. search needs) (λ c κs. search needs)
-    (λ c κs. search needs) (λ c κs. search needs) (λ c κs. search needs) (λ c κs. search needs) (λ c κs. search needs) returns)
+    (λ c κs. search needs) (λ c κs. search needs) (λ c κs. search needs) (λ c κs. search needs) (λ c κs. search needs) (λ c κs. search needs) returns)

@@ -19,7 +19,7 @@ returns-2 : tie.Need-returns-2
 unfolding badRecords
 returns-2 c =
     let b = c .before .before .before .before in
-    let t = b .before .before .before in
+    let t = b .before .before .before .before in
     let a = t .before .before .before .args in
     let short = not (eqb (length (a .credential .now)) credentialSize) in
     let other = not (eqb (length (a .request .now)) requestSize) in
@@ -31,8 +31,9 @@ returns-2 c =
       c .before .before .wrong-data .ensures,
       c .before .before .before .outside .ensures,
       b .bad-magic .ensures,
-      b .before .request-in .ensures,
-      b .before .before .credential-in .ensures,
+      b .before .default-need .ensures,
+      b .before .before .request-in .ensures,
+      b .before .before .before .credential-in .ensures,
       le-leb requestSize (length (a .request .now)) (omega (arith, f)),
       le-leb credentialSize (length (a .credential .now)) (omega (arith, e)),
       t .if1 .left,
@@ -43,4 +44,4 @@ bad-records-spec =
     tie.close
     (tie.spec
     returns (λ c κs. search needs) (λ c κs. search needs) (λ c κs. tt) (λ c κs. tt) (λ c κs. tt) (λ c κs. tt)
-    (λ c κs. tt) returns-2)
+    (λ c κs. tt) (λ c κs. tt) returns-2)

@@ -8,16 +8,14 @@ returns : tie.Need-returns
 unfolding recordRow firstRow
 returns c =
     rw (
-      c .pick5 .ensures,
+      c .pick4 .ensures,
       c .before .bad-magic .ensures,
-      c .before .before .pick4 .ensures,
+      c .before .before .pick3 .ensures,
       c .before .before .before .outside .ensures,
-      c .before .before .before .before .pick3 .ensures,
+      c .before .before .before .before .pick2 .ensures,
       c .before .before .before .before .before .wrong-length .ensures,
-      c .before .before .before .before .before .before .pick2 .ensures,
+      c .before .before .before .before .before .before .pick .ensures,
       c .before .before .before .before .before .before .before .misfit .ensures,
-      c .before .before .before .before .before .before .before .before .pick .ensures,
-      c .before .before .before .before .before .before .before .before .before .low-level .ensures,
     )
 
 pub record-row-spec : {M : Type 1} → statement M
@@ -25,4 +23,4 @@ record-row-spec =
     tie.close
     (tie.spec
     (λ c κs. tt) (λ c κs. tt) (λ c κs. tt) (λ c κs. tt) (λ c κs. tt) (λ c κs. tt)
-    (λ c κs. tt) (λ c κs. tt) (λ c κs. tt) (λ c κs. tt) returns)
+    (λ c κs. tt) (λ c κs. tt) returns)

@@ -11,7 +11,7 @@ use types.Run.{OneOf}
 use borrow.Author.Needs.{needs}
 use borrow.Author.Tests.{not-true, not-false}
 use Rattle.rules.specs.declared.Operation.{Operation}
-use Rattle.rules.specs.declared.Operation.the-variants.{Read, Write, Look, Raise, Create, Delete, SetKey}
+use Rattle.rules.specs.declared.Operation.the-variants.{Read, Write, Look, Raise, Create, Delete, SetKey, LoadTable}
 use Rattle.rules.proofs.Operation.{the-type}
 use Rattle.lemmas.specs.Lists.{part}
 use Rattle.digest.specs.Hmac.{hmac}
@@ -23,16 +23,17 @@ use Rattle.set_key.proofs.apply.Statement.{statement}
 use Rattle.set_key.proofs.apply.Tie as tie
 
 -- the tags of the other operations are not operation 7's, 6
-not-six : OneOf (0 ∷ 1 ∷ 2 ∷ 3 ∷ 4 ∷ 5 ∷ []) 6 → ⊥
+not-six : OneOf (0 ∷ 1 ∷ 2 ∷ 3 ∷ 4 ∷ 5 ∷ 7 ∷ []) 6 → ⊥
 not-six (inl e) = absurd (omega arith)
 not-six (inr (inl e)) = absurd (omega arith)
 not-six (inr (inr (inl e))) = absurd (omega arith)
 not-six (inr (inr (inr (inl e)))) = absurd (omega arith)
 not-six (inr (inr (inr (inr (inl e))))) = absurd (omega arith)
-not-six (inr (inr (inr (inr (inr e))))) = absurd (omega arith)
+not-six (inr (inr (inr (inr (inr (inl e)))))) = absurd (omega arith)
+not-six (inr (inr (inr (inr (inr (inr e)))))) = absurd (omega arith)
 
 -- the other operations
-stays : (o : Operation) (j slot p : ℕ) (signed ks : List ℕ) → OneOf (0 ∷ 1 ∷ 2 ∷ 3 ∷ 4 ∷ 5 ∷ []) (tagOf the-type o)
+stays : (o : Operation) (j slot p : ℕ) (signed ks : List ℕ) → OneOf (0 ∷ 1 ∷ 2 ∷ 3 ∷ 4 ∷ 5 ∷ 7 ∷ []) (tagOf the-type o)
     → ks ≡ keysAfter o j slot p signed ks
 stays (Read a b) j slot p signed ks h = refl
 stays (Write a b) j slot p signed ks h = refl
@@ -41,6 +42,7 @@ stays Raise j slot p signed ks h = refl
 stays (Create a b) j slot p signed ks h = refl
 stays Delete j slot p signed ks h = refl
 stays (SetKey a) j slot p signed ks h = absurd (not-six h)
+stays LoadTable j slot p signed ks h = refl
 
 -- operation 7, by whether the signing key, key j, is set
 module _ (target slot p j : ℕ) (signed ks : List ℕ) where

@@ -30,13 +30,17 @@ use model::rng::Rng;
 use std::collections::BTreeMap;
 use std::fs::write;
 
-/// Two records that rows 3 to 7 let through.
+/// Two records that rows 3 to 7 let through, of any of the eight operations.
 fn valid(rng: &mut Rng) -> (Credential, Request) {
-    let operation = 1 + rng.below(7) as u8;
-    let slot = if operation == SET_KEY { 2 + rng.below(3) as u8 } else { rng.below(2) as u8 };
-    let level = if operation == SET_KEY { 1 + rng.below(2) } else { rng.below(3) } as u8;
+    let operation = 1 + rng.below(8) as u8;
+    let slot = match operation {
+        SET_KEY => 2 + rng.below(3) as u8,
+        LOAD => 2,
+        _ => rng.below(2) as u8,
+    };
+    let level = if operation >= SET_KEY { 1 + rng.below(2) } else { rng.below(3) } as u8;
     let object = match operation {
-        CREATE | SET_KEY => 0,
+        CREATE | SET_KEY | LOAD => 0,
         LOOK | RAISE => rng.below(3) as u32,
         _ => 1 + rng.below(u32::MAX as u64) as u32,
     };
@@ -46,17 +50,12 @@ fn valid(rng: &mut Rng) -> (Credential, Request) {
         SET_KEY => (rng.below([2, 4, 1][slot as usize - 2]) as u32, 0),
         _ => (0, 0),
     };
-    let n = match operation {
-        WRITE => b,
-        SET_KEY => 16,
-        _ => 0,
-    };
     let c = Credential {
         mark: CREDENTIAL_MARK,
         partition: if slot >= 3 { 0 } else { rng.below(4) as u8 },
         slot,
         object,
-        version: if operation == SET_KEY { 0 } else { rng.next() as u32 },
+        version: if operation >= SET_KEY { 0 } else { rng.next() as u32 },
         rights: rng.next() as u16 & 0x7f,
         least: rng.below(level as u64 + 1) as u8,
         zero: 0,
@@ -65,15 +64,25 @@ fn valid(rng: &mut Rng) -> (Credential, Request) {
         expiry: rng.next(),
         holder: rng.next() as u32,
     };
-    let r = Request { mark: REQUEST_MARK, operation, level, time: rng.next(), count: rng.next() as u32, a, b, n };
-    (c, r)
+    let (time, count, n) = (rng.next(), rng.next() as u32, data_length(operation, b));
+    (c, Request { mark: REQUEST_MARK, operation, level, time, count, a, b, n })
+}
+
+/// The n that row 5 asks for.
+fn data_length(operation: u8, b: u32) -> u32 {
+    match operation {
+        WRITE => b,
+        SET_KEY => 16,
+        LOAD => 21,
+        _ => 0,
+    }
 }
 
 /// One field given another value, near its edges: it may stay valid.
 fn damage(rng: &mut Rng, c: &mut Credential, r: &mut Request) {
     let bit = 1u8 << rng.below(8);
     let high = 1u32 << rng.below(32);
-    match rng.below(17) {
+    match rng.below(18) {
         0 => c.mark[rng.below(2) as usize] ^= bit,
         1 => r.mark[rng.below(2) as usize] ^= bit,
         2 => c.partition = rng.pick(&[0, 1, 3, 4, 255]),
@@ -83,20 +92,21 @@ fn damage(rng: &mut Rng, c: &mut Credential, r: &mut Request) {
         6 => c.rights |= 1 << rng.below(16),
         7 => c.least = rng.pick(&[0, 1, 2, 3, 255]),
         8 => c.zero = bit,
-        9 => r.operation = rng.pick(&[0, 1, 2, 3, 4, 5, 6, 7, 8, 255]),
+        9 => r.operation = rng.pick(&[0, 1, 2, 3, 4, 5, 6, 7, 8, 9, 255]),
         10 => r.level = rng.pick(&[0, 1, 2, 3, 255]),
         11 => r.a = rng.pick(&[0, 1, 2, 3, 4, high, u32::MAX]),
         12 => r.b = rng.pick(&[0, 1, r.n, high, u32::MAX]),
-        13 => r.n = rng.pick(&[0, 15, 16, 17, r.n.wrapping_add(1), 1_048_576, 1_048_577, u32::MAX]),
+        13 => r.n = rng.pick(&[0, 15, 16, 17, 20, 21, 22, r.n.wrapping_add(1), 1_048_576, 1_048_577, u32::MAX]),
         14 => (c.slot, c.partition) = (3 + rng.below(2) as u8, rng.below(4) as u8),
         15 => r.b = rng.pick(&[4_194_304, 4_194_305]),
+        16 => (c.least, r.level) = (0, 0),
         _ => (c.least, r.level) = (1 + rng.below(2) as u8, rng.below(2) as u8),
     }
 }
 
 /// Why the records are refused, for the counts: the lowest of rows 3 to 7.
 fn reason(c: &Credential, r: &Request) -> u8 {
-    let rows = [(3, row_3(c, r)), (4, row_4(c, r)), (5, row_5_records(r)), (6, row_6(c, r)), (7, row_7(c, r))];
+    let rows = [(3, row_3(c, r)), (4, row_4(c, r)), (5, row_5_records(r)), (6, row_6(c, r)), (7, row_7_client(c, r))];
     rows.iter().find(|(_, met)| *met).map_or(0, |(row, _)| *row)
 }
 
@@ -210,6 +220,105 @@ fn spoil_reply(rng: &mut Rng, parts: &Parts, r: &Request, reply: &mut Vec<u8>) {
     }
 }
 
+/// How often which row was a call's answer, and why.
+#[derive(Default)]
+struct Counts(BTreeMap<(String, u8, Why), u64>);
+
+#[derive(PartialEq, Eq, PartialOrd, Ord)]
+enum Why {
+    Plain,
+    ByTheRecords(u8), // one of rows 3 to 7
+    Largest,
+}
+
+impl Counts {
+    fn count(&mut self, name: &str, row: u8, why: Why) {
+        *self.0.entry((name.to_string(), row, why)).or_default() += 1;
+    }
+
+    /// Lines `NAME row R: N`, with a word on what the records had where they were refused.
+    fn print(&self) {
+        for ((name, row, why), n) in &self.0 {
+            let why = match why {
+                Why::Plain => String::new(),
+                Why::ByTheRecords(row) => format!(" (row {row} met by the records)"),
+                Why::Largest => " (largest and one over)".to_string(),
+            };
+            println!("{name} row {row}{why}: {n}");
+        }
+    }
+}
+
+/// One case for the builder or the reply check: which of them, and its row.
+fn one_case(out: &mut Vec<u8>, rng: &mut Rng, c: &Credential, r: &Request, builds: bool) -> (&'static str, u8) {
+    let slot_key = rng.bytes(32);
+    let mut record = [0; 36];
+    let (row, key) = issue(&slot_key, c, &mut record);
+    let key = if row == 0 { key.to_vec() } else { rng.bytes(32) };
+    let mut parts = Parts { credential: c.bytes(), request: r.bytes(), key, data: vec![] };
+    let odd = rng.below(100);
+    if !builds {
+        parts.data = reply_or_nearly(rng, &parts, r);
+        lengths(rng, &mut parts, odd);
+        return ("check", check_case(out, &parts));
+    }
+    parts.data = rng.bytes((r.n as usize).min(2_000));
+    if odd == 0 {
+        parts.data.push(7);
+    } else if odd == 1 {
+        parts.data.pop();
+    }
+    lengths(rng, &mut parts, odd);
+    let needed = 96 + parts.data.len();
+    let space = match rng.below(6) {
+        0 => needed - 1,
+        1 => rng.below(needed as u64) as usize,
+        2 => needed + 1 + rng.below(100) as usize,
+        _ => needed,
+    };
+    ("build", build_case(out, rng, &parts, space))
+}
+
+/// A reply for these records, good or spoiled; seldom one of many bytes.
+fn reply_or_nearly(rng: &mut Rng, parts: &Parts, r: &Request) -> Vec<u8> {
+    if r.operation == READ && r.b > 2_000 && rng.chance(90) {
+        return rng.bytes(48);
+    }
+    let mut short = r.clone();
+    if r.result_length() > 5_000 {
+        short.b = 100;
+    }
+    let mut good = reply(rng, parts, &short);
+    if rng.chance(40) {
+        spoil_reply(rng, parts, &short, &mut good);
+    }
+    good
+}
+
+/// The largest that there are: 1,048,576 bytes of data, 4,194,304 of result, and one more of each.
+fn largest_cases(out: &mut Vec<u8>, rng: &mut Rng, counts: &mut Counts) {
+    for more in 0..2 {
+        for (operation, level) in [(WRITE, 1), (READ, 2)] {
+            let (mut c, mut r) = valid(rng);
+            while r.operation != operation {
+                (c, r) = valid(rng);
+            }
+            (c.least, r.level) = (0, level);
+            r.b = if operation == WRITE { 1_048_576 } else { 4_194_304 } + more;
+            r.n = if operation == WRITE { r.b } else { 0 };
+            let mut parts = Parts { credential: c.bytes(), request: r.bytes(), key: rng.bytes(32), data: vec![] };
+            let (name, row) = if operation == WRITE {
+                parts.data = rng.bytes(r.n as usize);
+                ("build", build_case(out, rng, &parts, 96 + r.n as usize))
+            } else {
+                parts.data = reply(rng, &parts, &r);
+                ("check", check_case(out, &parts))
+            };
+            counts.count(name, row, Why::Largest);
+        }
+    }
+}
+
 fn main() {
     let args: Vec<String> = std::env::args().collect();
     let [_, seed, count, path] = &args[..] else {
@@ -218,92 +327,24 @@ fn main() {
     };
     let mut rng = Rng::new(seed.parse().expect("SEED is a number"));
     let count: usize = count.parse().expect("COUNT is a number");
-    let mut out = vec![];
-    let mut counts: BTreeMap<(&str, u8, u8), u64> = BTreeMap::new();
-
+    let (mut out, mut counts) = (vec![], Counts::default());
     for i in 0..count {
         let (mut c, mut r) = valid(&mut rng);
         for _ in 0..rng.weighted(&[60, 28, 12]) {
             damage(&mut rng, &mut c, &mut r);
         }
-        let slot_key = rng.bytes(32);
-        let mut record = [0; 36];
-        let (row, key) = issue(&slot_key, &c, &mut record);
-        let key = if row == 0 { key.to_vec() } else { rng.bytes(32) };
-        let mut parts = Parts { credential: c.bytes(), request: r.bytes(), key, data: vec![] };
-        let why = reason(&c, &r);
-        let odd = rng.below(100);
-        let (name, row) = if i % 2 == 0 {
-            let n = (r.n as usize).min(2_000);
-            parts.data = rng.bytes(n);
-            if odd == 0 {
-                parts.data.push(7);
-            } else if odd == 1 {
-                parts.data.pop();
-            }
-            lengths(&mut rng, &mut parts, odd);
-            let needed = 96 + parts.data.len();
-            let space = match rng.below(6) {
-                0 => needed - 1,
-                1 => rng.below(needed as u64) as usize,
-                2 => needed + 1 + rng.below(100) as usize,
-                _ => needed,
-            };
-            ("build", build_case(&mut out, &mut rng, &parts, space))
-        } else {
-            if r.operation == READ && r.b > 2_000 && rng.chance(90) {
-                parts.data = rng.bytes(48);
-            } else {
-                let mut short = r.clone();
-                if r.result_length() > 5_000 {
-                    short.b = 100;
-                }
-                parts.data = reply(&mut rng, &parts, &short);
-                if rng.chance(40) {
-                    let mut spoiled = parts.data.clone();
-                    spoil_reply(&mut rng, &parts, &short, &mut spoiled);
-                    parts.data = spoiled;
-                }
-            }
-            lengths(&mut rng, &mut parts, odd);
-            ("check", check_case(&mut out, &parts))
-        };
-        *counts.entry((name, row, if row == 28 { why } else { 0 })).or_default() += 1;
+        let (name, row) = one_case(&mut out, &mut rng, &c, &r, i % 2 == 0);
+        let name = if r.operation == LOAD { format!("{name} of operation 8") } else { name.to_string() };
+        let why = if row == 28 { reason(&c, &r) } else { 0 };
+        counts.count(&name, row, if why == 0 { Why::Plain } else { Why::ByTheRecords(why) });
     }
-
-    // The largest that there are: 1,048,576 bytes of data, 4,194,304 of result, and one more of each.
-    for more in 0..2 {
-        for (operation, level) in [(WRITE, 1), (READ, 2)] {
-            let (mut c, mut r) = valid(&mut rng);
-            while r.operation != operation {
-                (c, r) = valid(&mut rng);
-            }
-            (c.least, r.level) = (0, level);
-            r.b = if operation == WRITE { 1_048_576 } else { 4_194_304 } + more;
-            r.n = if operation == WRITE { r.b } else { 0 };
-            let mut parts = Parts { credential: c.bytes(), request: r.bytes(), key: rng.bytes(32), data: vec![] };
-            let (name, row) = if operation == WRITE {
-                parts.data = rng.bytes(r.n as usize);
-                ("build", build_case(&mut out, &mut rng, &parts, 96 + r.n as usize))
-            } else {
-                parts.data = reply(&mut rng, &parts, &r);
-                ("check", check_case(&mut out, &parts))
-            };
-            *counts.entry((name, row, 9)).or_default() += 1;
-        }
-    }
+    largest_cases(&mut out, &mut rng, &mut counts);
     for _ in 0..count.div_ceil(4) {
-        *counts.entry(("issue", issue_case(&mut out, &mut rng), 0)).or_default() += 1;
+        let row = issue_case(&mut out, &mut rng);
+        counts.count("issue", row, Why::Plain);
     }
     write(path, out).expect("cannot write OUT");
-    for ((name, row, why), n) in counts {
-        let why = match why {
-            0 => String::new(),
-            9 => " (largest and one over)".to_string(),
-            why => format!(" (row {why} met by the records)"),
-        };
-        println!("{name} row {row}{why}: {n}");
-    }
+    counts.print();
 }
 
 /// Now and then a part that is not as long as it must be.

@@ -43,6 +43,16 @@
 //! 20 – 23  the partition's last version given
 //! 24 – 31  0
 //! ```
+//! Need, 32 bytes:
+//! ```text
+//!  0       4E (N)
+//!  1       partition, 0 to 3
+//!  2       operation, 1 to 7
+//!  3       0
+//!  4 –  7  mask
+//!  8 – 11  least level
+//! 12 – 31  0
+//! ```
 //! The drive that a format or call returns is the next call's, refused or not. After a refused format M stands for the length that
 //! was lent to it; the drive is that of row 24, so only an empty medium fits it.
 //!
@@ -50,11 +60,15 @@
 //! the drive or of the medium changes. The object need not start on a step, which row 1 does not ask for, and it may leave the drive
 //! record unsound. A record with a partition over 3, or for a partition that has 16 objects already, is none: the player ends with `cut`.
 //!
+//! By a need record the partition's operation table has this mask and this least level for this operation; nothing else changes. Both may
+//! be any numbers: row 1 asks for no good table. A record with a partition over 3, or with an operation that is not 1 to 7, is none: the
+//! player ends with `cut`.
+//!
 //! # What must be printed, OUT.expected
 //!
 //! A line for each record, so that the line's number is the record's: row, reply length, reply space, digest, one space between.
-//! - After a call the reply space is all its bytes in lowercase hexadecimal, written or not; `-` when it has none, for a format and for an
-//!   object. The line of an object is `0 0 - DIGEST`.
+//! - After a call the reply space is all its bytes in lowercase hexadecimal, written or not; `-` when it has none, for a format, for an
+//!   object and for a need. The line of an object or a need is `0 0 - DIGEST`.
 //! - The digest is SHA-256, in lowercase hexadecimal, of the first M + 8 bytes of the medium buffer: the medium and 8 bytes behind it.
 //!
 //! `replay < OUT.in` prints it with the model in the drive's place.
@@ -62,7 +76,7 @@
 use model::digest::{hex, sha256};
 use model::drive::{format, MOST_MEDIUM};
 use model::rng::Rng;
-use model::traffic::{Breach, Done, Put, Sink, Tally, Traffic, BREACHES, GUARD};
+use model::traffic::{Breach, Done, Put, PutNeed, Sink, Tally, Traffic, BREACHES, GUARD};
 use std::fs::write;
 
 #[derive(Default)]
@@ -95,6 +109,14 @@ impl Sink for Trace {
         }
         self.line(0, 0, "-", put.medium);
     }
+
+    fn need(&mut self, put: &PutNeed) {
+        self.records.extend([b'N', put.partition, put.operation, 0]);
+        for number in [put.need.mask, put.need.level, 0, 0, 0, 0, 0] {
+            self.records.extend(number.to_be_bytes());
+        }
+        self.line(0, 0, "-", put.medium);
+    }
 }
 
 /// What a format is lent.
@@ -109,12 +131,13 @@ struct Lent<'a> {
 struct Plot {
     calls: usize,
     objects: bool, // come from outside too
+    needs: bool,   // so do lines of operation tables
     breach: Option<(Breach, usize)>,
 }
 
 /// Calls and nothing else.
 fn plainly(calls: usize) -> Plot {
-    Plot { calls, objects: false, breach: None }
+    Plot { calls, objects: false, needs: false, breach: None }
 }
 
 impl Trace {
@@ -143,6 +166,9 @@ impl Trace {
             Traffic::new(Rng::new(rng.next()), fresh, medium, true, plot.calls, self).with_keys(lent.drive, lent.master);
         if plot.objects {
             traffic = traffic.with_objects();
+        }
+        if plot.needs {
+            traffic = traffic.with_needs();
         }
         if let Some((breach, calls)) = plot.breach {
             traffic = traffic.broken_by(breach, calls);
@@ -178,7 +204,7 @@ fn refused_life(trace: &mut Trace, rng: &mut Rng, left: &mut usize) {
     let (master, drive) = (rng.bytes(32), rng.bytes(32));
     let wrong = rng.pick(&[0, 1, 31, 33, 40]);
     let other = rng.bytes(wrong);
-    let calls = (rng.below(5) as usize).min(*left);
+    let calls = (rng.below(12) as usize).min(*left);
     *left -= calls;
     let good = Lent { size, f, master: &master, drive: &drive };
     let lent = match rng.below(4) {
@@ -197,16 +223,17 @@ fn broken_life(trace: &mut Trace, rng: &mut Rng, left: &mut usize, breaches: &mu
     let calls = (8 + rng.below(70) as usize).min(*left);
     let breach = breaches.next().map(|breach| (breach, calls.min(1 + rng.below(6) as usize)));
     *left -= calls;
-    trace.life(rng, &Lent { size, f, master: &master, drive: &drive }, &Plot { calls, objects: true, breach });
+    trace.life(rng, &Lent { size, f, master: &master, drive: &drive }, &Plot { calls, objects: true, needs: false, breach });
 }
 
-/// A life of up to some hundred calls, in one of three among objects from outside.
+/// A life of up to some hundred calls, in one of three among objects from outside, in two of five by tables from outside.
 fn whole_life(trace: &mut Trace, rng: &mut Rng, left: &mut usize) {
-    let (size, f, objects) = (size(rng), first_version(rng), rng.chance(33));
+    let (size, f) = (size(rng), first_version(rng));
+    let (objects, needs) = (rng.chance(33), rng.chance(40));
     let (master, drive) = (rng.bytes(32), rng.bytes(32));
     let calls = (30 + rng.below(800) as usize).min(*left);
     *left -= calls;
-    trace.life(rng, &Lent { size, f, master: &master, drive: &drive }, &Plot { calls, objects, breach: None });
+    trace.life(rng, &Lent { size, f, master: &master, drive: &drive }, &Plot { calls, objects, needs, breach: None });
 }
 
 /// The largest medium and one byte more.

@@ -4,6 +4,7 @@
 use model::digest::{hex, sha256};
 use model::drive::{format, Drive, Object, MOST_MEDIUM, MOST_OBJECTS};
 use model::gate::gate;
+use model::table::Need;
 use model::traffic::GUARD;
 use std::io::{stdin, stdout, BufReader, BufWriter, Read, Write};
 use std::process::ExitCode;
@@ -48,6 +49,7 @@ impl Player {
             (FIRST_PART, b'F') => self.format(head, input),
             (FIRST_PART, b'C') => self.call(head, input),
             (FIRST_PART, b'O') => self.object(head),
+            (FIRST_PART, b'N') => self.need(head),
             _ => None,
         }
     }
@@ -84,6 +86,13 @@ impl Player {
         let object = Object { number: four(head, 4), version: four(head, 8), size: four(head, 12), start: four(head, 16) };
         partition.objects.push(object);
         partition.last_given = four(head, 20);
+        self.line(0, 0, &[])
+    }
+
+    fn need(&mut self, head: &[u8]) -> Option<String> {
+        let partition = self.drive.partitions.get_mut(head[1] as usize)?;
+        let line = partition.table.0.get_mut(usize::from(head[2]).checked_sub(1)?)?;
+        *line = Need { mask: four(head, 4), level: four(head, 8) };
         self.line(0, 0, &[])
     }
 }

@@ -5,6 +5,7 @@ use crate::digest::hmac;
 use crate::drive::*;
 use crate::records::*;
 use crate::rng::Rng;
+use crate::table::{Table, ALL_RIGHTS, MOST_LEVEL};
 
 #[derive(Clone)]
 pub(super) enum Sign {
@@ -27,20 +28,23 @@ pub(super) struct Draft {
 }
 
 impl Traffic<'_> {
-    /// A valid draft, plain: T at the mark, all rights, everything in range.
-    pub(super) fn plain(&mut self, mark: u64, operation: u8, partition: u8, slot: u8, object: u32, a: u32, b: u32) -> Draft {
-        let data = match operation {
+    /// A write's bytes, a seed, or for a load document 01's rule.
+    fn plain_data(&mut self, operation: u8, b: u32) -> Vec<u8> {
+        match operation {
             WRITE => self.rng.bytes(b as usize),
             SET_KEY => self.rng.bytes(16),
+            LOAD => Table::default().bytes(),
             _ => vec![],
-        };
-        let version = if operation == SET_KEY {
-            0
-        } else {
-            self.drive.partitions[partition as usize].present_version(object).unwrap_or(1)
-        };
+        }
+    }
+
+    /// A valid draft, plain: T at the mark, all rights, the level that is needed, everything in range.
+    pub(super) fn plain(&mut self, mark: u64, operation: u8, partition: u8, slot: u8, object: u32, a: u32, b: u32) -> Draft {
+        let data = self.plain_data(operation, b);
+        let present = self.drive.partitions[partition as usize].present_version(object).unwrap_or(1);
+        let version = if operation >= SET_KEY { 0 } else { present };
         self.counter = self.counter.wrapping_add(1);
-        Draft {
+        let mut draft = Draft {
             c: Credential {
                 mark: CREDENTIAL_MARK,
                 partition,
@@ -70,7 +74,22 @@ impl Traffic<'_> {
             cut_to: None,
             cut: 0,
             add: 0,
-        }
+        };
+        self.meet_the_need(&mut draft);
+        draft
+    }
+
+    /// Gives a draft what it needs by its partition's table, as far as a frame can have it.
+    pub(super) fn meet_the_need(&self, d: &mut Draft) {
+        let (mask, level) = self.reachable_need(d);
+        d.c.rights |= mask;
+        d.r.level = d.r.level.max(level);
+    }
+
+    /// The rights and the level that a draft needs. A record may ask for more than any frame has: then as much as one can have.
+    pub(super) fn reachable_need(&self, d: &Draft) -> (u16, u8) {
+        let need = self.drive.need(&d.c, d.r.operation);
+        need.map_or((0, 0), |need| ((need.mask & ALL_RIGHTS) as u16, need.level.min(MOST_LEVEL) as u8))
     }
 
     /// Keys that stay unset for long, so that row 8 stays in reach.
@@ -81,6 +100,20 @@ impl Traffic<'_> {
     /// A draft that the state lets through where it can, with the fields near their edges.
     pub(super) fn draft(&mut self, mark: u64, wants: &[u8]) -> Draft {
         let place = self.rng.pick(&self.taste.places);
+        let p = if place < 4 { place } else { self.rng.below(4) as u8 };
+        let (fitting, forced) = self.fitting_operation(wants);
+        let op = if place == 4 && !forced { SET_KEY } else { self.possible_operation(fitting, p, wants, forced) };
+        let mut draft = match op {
+            SET_KEY => self.key_draft(mark, place, p),
+            LOAD => self.load_draft(mark, p),
+            _ => self.object_draft(mark, op, p, wants),
+        };
+        self.vary(&mut draft, mark);
+        draft
+    }
+
+    /// An operation by the episode's taste that can be refused by these rows, and whether they left a choice.
+    fn fitting_operation(&mut self, wants: &[u8]) -> (u8, bool) {
         let mut op = self.rng.weighted(&self.taste.ops) as u8 + 1;
         let mut forced = false;
         for want in wants {
@@ -90,6 +123,7 @@ impl Traffic<'_> {
                 16 | 17 => &[1, 2],
                 18..=20 => &[5],
                 21 => &[4, 5],
+                31 => &[LOAD],
                 _ => continue,
             };
             forced = true;
@@ -97,44 +131,57 @@ impl Traffic<'_> {
                 op = self.rng.pick(fitting);
             }
         }
-        let p = if place < 4 { place } else { self.rng.below(4) as u8 };
-        if place == 4 && !forced {
-            op = SET_KEY;
+        (op, forced)
+    }
+
+    /// What the state does not let through becomes something else.
+    fn possible_operation(&mut self, op: u8, p: u8, wants: &[u8], forced: bool) -> u8 {
+        let partition = &self.drive.partitions[p as usize];
+        let (objects, keyless) = (partition.objects.len(), partition.working.iter().all(Option::is_none));
+        let unset = if op == LOAD { partition.key.is_none() } else { keyless };
+        let op = match op {
+            READ | WRITE | DELETE if objects == 0 && !wants.contains(&14) => {
+                if self.rng.chance(70) { CREATE } else { LOOK }
+            }
+            CREATE if objects == MOST_OBJECTS && !forced && self.rng.chance(60) => DELETE,
+            _ => op,
+        };
+        if unset && self.rng.chance(85) {
+            SET_KEY
+        } else {
+            op
         }
+    }
+
+    /// Sets a key: of the drive or a partition where the place is 4, else a working key.
+    fn key_draft(&mut self, mark: u64, place: u8, p: u8) -> Draft {
+        let mut slot = if place == 4 { self.rng.pick(&[3, 3, 3, 4]) } else { 2 };
+        if slot == 2 && self.drive.partitions[p as usize].key.is_none() {
+            slot = 3;
+        }
+        let mut a = match slot {
+            4 => 0,
+            3 if place == 4 => self.rng.below(4) as u32,
+            3 => p as u32,
+            _ => self.rng.below(2) as u32,
+        };
+        if !self.may_set(slot, p, a) {
+            a = 0;
+        }
+        self.plain(mark, SET_KEY, if slot == 2 { p } else { 0 }, slot, 0, a, 0)
+    }
+
+    /// Loads some good table.
+    pub(super) fn load_draft(&mut self, mark: u64, p: u8) -> Draft {
+        let table = self.some_table(p);
+        Draft { data: table.bytes(), ..self.plain(mark, LOAD, p, 2, 0, 0, 0) }
+    }
+
+    /// An operation of 1 to 6, under a working key that is set if one is.
+    fn object_draft(&mut self, mark: u64, op: u8, p: u8, wants: &[u8]) -> Draft {
         let partition = self.drive.partitions[p as usize].clone();
         let objects = &partition.objects;
-
-        // What the state does not let through becomes something else.
-        if matches!(op, READ | WRITE | DELETE) && objects.is_empty() && !wants.contains(&14) {
-            op = if self.rng.chance(70) { CREATE } else { LOOK };
-        }
-        if op == CREATE && objects.len() == MOST_OBJECTS && !forced && self.rng.chance(60) {
-            op = DELETE;
-        }
         let set: Vec<u8> = (0..2).filter(|s| partition.working[*s as usize].is_some()).collect();
-        if op != SET_KEY && set.is_empty() && self.rng.chance(85) {
-            op = SET_KEY;
-        }
-
-        if op == SET_KEY {
-            let mut slot = if place == 4 { self.rng.pick(&[3, 3, 3, 4]) } else { 2 };
-            if slot == 2 && partition.key.is_none() {
-                slot = 3;
-            }
-            let mut a = match slot {
-                4 => 0,
-                3 if place == 4 => self.rng.below(4) as u32,
-                3 => p as u32,
-                _ => self.rng.below(2) as u32,
-            };
-            if !self.may_set(slot, p, a) {
-                a = 0;
-            }
-            let mut draft = self.plain(mark, SET_KEY, if slot == 2 { p } else { 0 }, slot, 0, a, 0);
-            self.vary(&mut draft, mark);
-            return draft;
-        }
-
         let slot = if set.is_empty() { self.rng.below(2) as u8 } else { self.rng.pick(&set) };
         let some = |rng: &mut Rng| if objects.is_empty() { 1 } else { rng.pick(objects).number };
         let mut entered: Vec<u32> = vec![]; // objects that a repeat may be for
@@ -155,20 +202,24 @@ impl Traffic<'_> {
             _ => (0, 0),
         };
         let mut draft = self.plain(mark, op, p, slot, object, a, b);
-        if op == READ || op == WRITE {
-            let end = a.saturating_add(b);
-            (draft.c.first, draft.c.end) = match self.rng.below(4) {
+        self.give_a_range(&mut draft, size);
+        draft
+    }
+
+    /// First and end around what a read or write asks of an object of this size; other operations may have any.
+    fn give_a_range(&mut self, d: &mut Draft, size: u32) {
+        if d.r.operation == READ || d.r.operation == WRITE {
+            let (a, end) = (d.r.a, d.r.a.saturating_add(d.r.b));
+            (d.c.first, d.c.end) = match self.rng.below(4) {
                 0 => (a, end),
                 1 => (0, size),
                 2 => (self.rng.below(a as u64 + 1) as u32, end.saturating_add(self.rng.below(30) as u32)),
                 _ => (0, u32::MAX),
             };
         } else if self.rng.chance(50) {
-            draft.c.first = self.rng.next() as u32;
-            draft.c.end = self.rng.next() as u32; // not judged here, whatever they say
+            d.c.first = self.rng.next() as u32;
+            d.c.end = self.rng.next() as u32; // not judged here, whatever they say
         }
-        self.vary(&mut draft, mark);
-        draft
     }
 
     /// Offset and length within a size, at its edges.
@@ -230,10 +281,9 @@ impl Traffic<'_> {
 
     /// The fields that every operation has, still valid, at their edges.
     fn vary(&mut self, d: &mut Draft, mark: u64) {
-        let op = d.r.operation;
-        d.r.level = if op == SET_KEY { 1 + self.rng.below(2) as u8 } else { self.rng.below(3) as u8 };
+        let (needed, level) = self.reachable_need(d);
+        d.r.level = level + self.rng.below(3 - level as u64) as u8;
         d.c.least = self.rng.below(d.r.level as u64 + 1) as u8;
-        let needed = 1u16 << (op - 1);
         d.c.rights = match self.rng.below(3) {
             0 => needed,
             1 => 0x7f,

@@ -5,13 +5,19 @@ use super::{Clock, Taste, Traffic};
 use crate::drive::*;
 use crate::records::*;
 
+/// The rows that calls are aimed at. Of the program's calls none meets rows 21 and 23, and row 22 has its own story.
+const AIMED_AT: [u8; 20] = [2, 3, 4, 5, 6, 7, 8, 9, 10, 11, 12, 13, 14, 15, 16, 17, 18, 19, 20, 31];
+const AIMED_AT_IN_A_LIBRARY: [u8; 23] = [2, 3, 4, 5, 6, 7, 8, 9, 10, 11, 12, 13, 14, 15, 16, 17, 18, 19, 20, 21, 22, 23, 31];
+const ROWS_OF_ONE_OPERATION: [[u8; 2]; 10] =
+    [[16, 17], [14, 16], [15, 17], [18, 20], [15, 18], [14, 15], [12, 13], [13, 31], [12, 31], [7, 13]];
+
 impl Traffic<'_> {
     /// All the calls.
     pub fn run(&mut self) {
         if self.drive.master.is_none() {
             return self.unformatted();
         }
-        if self.from_outside {
+        if self.objects_from_outside {
             self.furnish();
         }
         let tail = if self.breach.is_some() { 0 } else { (self.total / 20).min(1_500) };
@@ -35,8 +41,9 @@ impl Traffic<'_> {
     fn episode(&mut self) {
         self.taste = Taste::balanced();
         let p = self.rng.below(4) as u8;
-        let (steps, outside) = (if self.library { 20 } else { 12 }, if self.from_outside { 40 } else { 0 });
-        match self.rng.weighted(&[50, 6, 12, 6, 9, 9, 9, 6, 3, 6, 9, steps, outside]) {
+        let steps = if self.library { 20 } else { 12 };
+        let (objects, needs) = (if self.objects_from_outside { 40 } else { 0 }, if self.needs_from_outside { 40 } else { 0 });
+        match self.rng.weighted(&[50, 6, 12, 6, 9, 9, 9, 6, 3, 6, 9, steps, 18, objects, needs]) {
             0 => self.balanced(),
             1 => {
                 let place = self.rng.below(5) as u8;
@@ -52,22 +59,35 @@ impl Traffic<'_> {
             9 => self.last_versions(p),
             10 => self.two_heads(p),
             11 => self.steps(p),
-            _ => self.more_objects(p),
+            12 => self.tables(p),
+            13 => self.more_objects(p),
+            _ => self.more_needs(p),
         }
     }
 
-    /// The drive of a refused format: no key, so a good frame is row 8.
+    /// The drive of a refused format: no key, so a good frame is row 8. First two calls that tell its table: rows 7 and 8.
     fn unformatted(&mut self) {
+        for (op, slot) in [(SET_KEY, 2), (LOOK, 0)] {
+            let (clock, p) = (self.rng.below(10_000), self.rng.below(4) as u8);
+            let mut d = self.plain(self.drive.mark.max(clock), op, p, slot, 0, 0, 0);
+            d.r.level = 0;
+            self.plain_at(clock, &d);
+        }
         while self.left > 0 {
             let clock = self.rng.below(10_000);
             let mark = self.drive.mark.max(clock);
-            if self.rng.chance(15) {
-                self.one_at(clock, &[]);
-            } else {
-                let slot = self.rng.pick(&[3, 4]);
-                let d = self.plain(mark, SET_KEY, 0, slot, 0, 0, 0);
-                self.plain_at(clock, &d);
-            }
+            match self.rng.weighted(&[15, 35, 50]) {
+                0 => self.one_at(clock, &[]),
+                1 => {
+                    let slot = self.rng.pick(&[3, 4]);
+                    let d = self.plain(mark, SET_KEY, 0, slot, 0, 0, 0);
+                    self.plain_at(clock, &d)
+                }
+                _ => {
+                    let d = self.draft_without_a_key(mark);
+                    self.plain_at(clock, &d)
+                }
+            };
         }
     }
 
@@ -103,14 +123,14 @@ impl Traffic<'_> {
         let many = self.rng.weighted(&self.taste.spoils);
         let mut wants = vec![];
         for _ in 0..many {
-            let row = 2 + self.rng.below(if self.library { 22 } else { 19 }) as u8;
+            let row = self.rng.pick(if self.library { &AIMED_AT_IN_A_LIBRARY[..] } else { &AIMED_AT });
             if !wants.contains(&row) {
                 wants.push(row);
             }
         }
         // Two of one operation's rows meet seldom by chance.
         if many == 2 && self.rng.chance(25) {
-            wants = self.rng.pick(&[vec![16, 17], vec![14, 16], vec![15, 17], vec![18, 20], vec![15, 18], vec![14, 15], vec![12, 13]]);
+            wants = self.rng.pick(&ROWS_OF_ONE_OPERATION).to_vec();
         }
         wants
     }
@@ -152,6 +172,9 @@ impl Traffic<'_> {
         if !self.may_set(d.c.slot, d.c.partition, d.r.a) && d.r.operation == SET_KEY {
             return;
         }
+        if self.rng.chance(80) {
+            self.meet_the_need(&mut d); // the table may be another one now
+        }
         let clock = self.clock();
         self.plain_at(clock, &d);
     }
@@ -162,9 +185,9 @@ impl Traffic<'_> {
         let elsewhere: Vec<u32> = objects.iter().map(|o| o.number).chain([0]).filter(|o| *o != d.c.object).collect();
         if d.c.slot < 2 && !elsewhere.is_empty() {
             d.c.object = self.rng.pick(&elsewhere);
-            d.c.rights |= 1 << (LOOK - 1);
             (d.r.operation, d.r.a, d.r.b, d.r.n) = (LOOK, 0, 0, 0);
             d.data.clear();
+            self.meet_the_need(d);
         }
     }
 
@@ -258,7 +281,7 @@ impl Traffic<'_> {
             self.ready(place);
         }
         self.taste.places = vec![place];
-        self.taste.ops = [10, 10, 30, 5, 4, 2, 3];
+        self.taste.ops = [10, 10, 30, 5, 4, 2, 3, 2];
         self.taste.clock = Clock::Still;
         for _ in 0..160 {
             if self.memory_of(place).len() >= MOST_ENTRIES {
@@ -268,6 +291,12 @@ impl Traffic<'_> {
         }
         for row in 2..=23 {
             self.one(&[row]);
+        }
+        for _ in 0..4 {
+            self.one(&[31]);
+            let (mark, p) = (self.drive.mark, place % 4);
+            let good = self.load_draft(mark, p);
+            self.plain_at(mark, &good);
         }
         for _ in 0..6 {
             self.one(&[]);
@@ -288,7 +317,7 @@ impl Traffic<'_> {
     fn fill_partition(&mut self, p: u8) {
         self.ready(p);
         self.taste.places = vec![p];
-        self.taste.ops = [2, 2, 1, 1, 30, 0, 0];
+        self.taste.ops = [2, 2, 1, 1, 30, 0, 0, 0];
         self.fill_to_the_last_byte(p);
         for row in 2..=20 {
             let clock = self.tick();

@@ -187,7 +187,7 @@ impl Traffic<'_> {
         self.finish(&d)
     }
 
-    fn shuffled<T: Clone>(&mut self, list: &[T]) -> Vec<T> {
+    pub(super) fn shuffled<T: Clone>(&mut self, list: &[T]) -> Vec<T> {
         let mut list = list.to_vec();
         self.rng.shuffle(&mut list);
         list

@@ -2,8 +2,9 @@
 //!
 //! A call starts as a draft that no row refuses; then it is spoiled for none, one, two or more rows, signed, and put to the model.
 //! Around that stand short stories: full memories, full partitions, gaps on and off the steps of change 3, keys set and set back, late
-//! frames, recreated objects, heads under one holder number, the first and the last milliseconds. Some lives of a library start from a
-//! record that no list of calls makes. Beside the drive a [`Ledger`] is kept, and every call is held to demand 3.
+//! frames, recreated objects, heads under one holder number, operation tables loaded and put back, the first and the last milliseconds.
+//! Some lives of a library start from a record that no list of calls makes, or come to one. Beside the drive a [`Ledger`] is kept, and
+//! every call is held to demand 3.
 //!
 //! An entry is a frame's *twin* when it is in the frame's memory and is its nonce in all but the object.
 
@@ -12,12 +13,15 @@ use crate::gate::gate_with_rows;
 use crate::ledger::Ledger;
 use crate::records::*;
 use crate::rng::Rng;
+use crate::table::Need;
+use asked::{Asked, Since};
 use drafts::Draft;
 pub use outside::{Breach, BREACHES};
 use placing::Placing;
 use std::mem::replace;
 pub use tally::Tally;
 
+mod asked;
 mod drafts;
 mod episodes;
 mod heads;
@@ -25,6 +29,7 @@ mod outside;
 mod placing;
 mod spoil;
 mod steps;
+mod tables;
 mod tally;
 
 /// Bytes after the medium that a test may lend too much of, and that nobody may write.
@@ -47,6 +52,7 @@ pub struct Done<'a> {
     pub medium: &'a [u8], // with its guard bytes
     pub twins: &'a [u32], // the objects of the frame's twins, as the memory was when the rows were judged
     pub placing: Option<&'a Placing>,
+    pub asked: Option<&'a Asked>,
     pub sound: bool, // the drive record, before the call
 }
 
@@ -58,13 +64,22 @@ pub struct Put<'a> {
     pub medium: &'a [u8], // with its guard bytes
 }
 
-/// Who is told of every call, and of every object that comes from outside.
+/// A line of a partition's operation table that was put into the drive record from outside.
+pub struct PutNeed<'a> {
+    pub partition: u8,
+    pub operation: u8,
+    pub need: Need,
+    pub medium: &'a [u8], // with its guard bytes
+}
+
+/// Who is told of every call, and of all that comes from outside.
 pub trait Sink {
     fn call(&mut self, done: &Done);
     fn object(&mut self, put: &Put);
+    fn need(&mut self, put: &PutNeed);
 }
 
-/// Enough for traffic in which no object comes from outside.
+/// Enough for traffic in which nothing comes from outside.
 impl<F: FnMut(&Done)> Sink for F {
     fn call(&mut self, done: &Done) {
         self(done)
@@ -72,6 +87,10 @@ impl<F: FnMut(&Done)> Sink for F {
 
     fn object(&mut self, _: &Put) {
         unreachable!("nobody is told of this object")
+    }
+
+    fn need(&mut self, _: &PutNeed) {
+        unreachable!("nobody is told of this need")
     }
 }
 
@@ -86,14 +105,14 @@ enum Clock {
 #[derive(Clone)]
 struct Taste {
     places: Vec<u8>, // partitions; 4 stands for drive and master key
-    ops: [u64; 7],
+    ops: [u64; 8],
     clock: Clock,
     spoils: [u64; 4], // weights of none, one, two, three rows aimed at
 }
 
 impl Taste {
     fn balanced() -> Taste {
-        Taste { places: vec![0, 0, 1, 1, 2, 3, 4], ops: [20, 20, 12, 12, 16, 8, 6], clock: Clock::Drift, spoils: [30, 40, 22, 8] }
+        Taste { places: vec![0, 0, 1, 1, 2, 3, 4], ops: [20, 20, 12, 12, 16, 8, 6, 4], clock: Clock::Drift, spoils: [30, 40, 22, 8] }
     }
 }
 
@@ -114,7 +133,9 @@ pub struct Traffic<'a> {
     past: Vec<(u8, u32, u32)>,  // partition, object and a version that it had
     old_keys: Vec<Key>,
     lent_keys: [Key; 2],             // drive and master key as a refused format was lent them
-    from_outside: bool,              // objects come from outside too
+    since: [Since; 4],               // of each partition's table: where it is from, and what came after
+    objects_from_outside: bool,
+    needs_from_outside: bool,        // lines of operation tables
     breach: Option<(Breach, usize)>, // what makes the record unsound in the end, and how many calls find it so
     sink: &'a mut dyn Sink,
 }
@@ -150,7 +171,9 @@ impl<'a> Traffic<'a> {
             past: vec![],
             old_keys: vec![[0; 32], [1; 32]],
             lent_keys: [[0; 32]; 2],
-            from_outside: false,
+            since: Default::default(),
+            objects_from_outside: false,
+            needs_from_outside: false,
             breach: None,
             sink,
         }
@@ -197,6 +220,7 @@ impl<'a> Traffic<'a> {
         let row = rows.first().copied().unwrap_or(0);
         let twins = twins(&self.drive, &call.frame);
         let placing = Placing::of(before, &call.frame, row);
+        let asked = Asked::of(before, &self.since, &call.frame, rows);
         self.sink.call(&Done {
             call,
             rows,
@@ -206,8 +230,10 @@ impl<'a> Traffic<'a> {
             medium: &self.medium,
             twins: &twins,
             placing: placing.as_ref(),
+            asked: asked.as_ref(),
             sound: before.sound(),
         });
+        Since::follow(&mut self.since, before, &call.frame, row);
     }
 
     /// The gaps of a partition.
@@ -394,14 +420,17 @@ mod tests {
         let (_, drive) = format(&mut medium[..65_536], 1, &[0; 32], &[1; 32]);
         let mut tally = Tally::default();
         let mut sink = |done: &Done| tally.count(done);
-        Traffic::new(Rng::new(5), drive, medium, false, 8_000, &mut sink).run();
-        for row in (0..=22).filter(|r| *r != 1 && *r != 21) {
+        Traffic::new(Rng::new(5), drive, medium, false, 16_000, &mut sink).run();
+        for row in (0..=22).filter(|r| *r != 1 && *r != 21).chain([31]) {
             assert!(tally.rows[row] > 0, "row {row} is not met");
         }
         assert!(tally.beside_a_twin.iter().all(|n| *n > 0), "{BESIDE_A_TWIN:?}: {:?}", tally.beside_a_twin);
         assert!(tally.steps.iter().all(|n| *n > 0), "{STEPS:?}: {:?}", tally.steps);
-        assert_eq!((tally.steps_of_a_library, tally.unsound), ([0, 0], 0));
-        assert_eq!(tally.rows.iter().sum::<u64>(), 8_000);
+        for (names, counts) in tally.of_tables() {
+            assert!(counts.iter().all(|n| *n > 0), "{names:?}: {counts:?}");
+        }
+        assert_eq!((tally.steps_of_a_library, tally.needs_of_a_library, tally.unsound), ([0; 2], [0; 9], 0));
+        assert_eq!(tally.rows.iter().sum::<u64>(), 16_000);
     }
 
     /// A small drive that soon has given its last version, with spaces and media of any length: the other three rows.
@@ -416,7 +445,7 @@ mod tests {
             assert!(done.space[done.length..].iter().all(|b| *b == done.call.fill));
         };
         Traffic::new(Rng::new(6), drive, medium, true, 3_000, &mut sink).run();
-        for row in [0, 1, 21, 23] {
+        for row in [0, 1, 21, 23, 31] {
             assert!(tally.rows[row] > 0, "row {row} is not met");
         }
         assert!(tally.beside_a_twin.iter().all(|n| *n > 0), "{BESIDE_A_TWIN:?}: {:?}", tally.beside_a_twin);

@@ -1,8 +1,12 @@
-//! Objects that come into the drive record from outside, at any start: change 3's "row 1 asks for no such step". No list of calls makes
-//! such a record. Calls go on among them; in the end one may leave the record unsound.
+//! What comes into the drive record from outside, so that no list of calls makes it: objects at any start, by change 3's "row 1 asks for
+//! no such step", and lines of operation tables that are not good, of which row 1 says nothing. Calls go on among them; in the end an
+//! object may leave the record unsound.
 
-use super::{Put, Taste, Traffic};
+use super::asked::Since;
+use super::{Put, PutNeed, Taste, Traffic};
 use crate::drive::*;
+use crate::records::SET_KEY;
+use crate::table::*;
 
 /// Which clause an object breaks: "with different numbers from 1, nonempty disjoint areas inside its quarter and no version over the
 /// last given".
@@ -28,7 +32,13 @@ pub const BREACHES: [Breach; 6] = [
 impl<'a> Traffic<'a> {
     /// Objects come from outside too, before the first call and between others.
     pub fn with_objects(mut self) -> Traffic<'a> {
-        self.from_outside = true;
+        self.objects_from_outside = true;
+        self
+    }
+
+    /// Lines of operation tables come from outside too, between calls.
+    pub fn with_needs(mut self) -> Traffic<'a> {
+        self.needs_from_outside = true;
         self
     }
 
@@ -155,6 +165,81 @@ impl<'a> Traffic<'a> {
         }
     }
 
+    /// Between calls: a table that no load makes, calls that it decides, and others. Then a good one again, by a load or from outside.
+    pub(super) fn more_needs(&mut self, p: u8) {
+        self.ready(p);
+        self.an_object(p);
+        for _ in 0..1 + self.rng.below(3) {
+            let op = self.rng.pick(&[1, 2, 3, 4, 5, 6, SET_KEY, SET_KEY]);
+            let need = self.odd_need(op);
+            self.put_need(p, op, need);
+            self.calls_on_a_line(p, op);
+        }
+        self.taste.places = vec![p, p, p, 4];
+        for _ in 0..self.rng.below(12) {
+            let wants = self.wants();
+            self.one(&wants);
+        }
+        if self.rng.chance(70) {
+            let table = self.some_table(p);
+            self.load(p, &table);
+        }
+        if !self.drive.partitions[p as usize].table.good() {
+            (1..=SET_KEY).for_each(|op| self.put_need(p, op, document_01(op).unwrap()));
+        }
+    }
+
+    /// Calls of an operation with all that a frame can have, with no right, at the lowest level, and at the line's edges.
+    fn calls_on_a_line(&mut self, p: u8, op: u8) {
+        for (rights, level) in self.shuffled(&[(0x7f, 2), (0x7f, 0), (0, 2), (0, 0)]) {
+            if let Some(mut draft) = self.at_the_need(p, op) {
+                (draft.c.rights, draft.r.level, draft.c.least) = (rights, level, 0);
+                self.plain_at(draft.r.time, &draft);
+            }
+        }
+        for _ in 0..3 {
+            self.try_the_table(p, op);
+            self.against_document_01(p);
+        }
+    }
+
+    /// A line that is not good in the mask, in the level or in both.
+    fn odd_need(&mut self, op: u8) -> Need {
+        let rule = document_01(op).unwrap();
+        let (mask, level) = (self.odd_mask(rule.mask), self.odd_level(op));
+        let good_level = self.rng.pick(&[rule.level, rule.level, 2]);
+        match self.rng.below(5) {
+            0 | 1 => Need { mask, level: good_level },
+            2 | 3 => Need { mask: rule.mask, level },
+            _ => Need { mask, level },
+        }
+    }
+
+    /// No right, or a bit that no credential has, alone or beside the operation's own right.
+    fn odd_mask(&mut self, own: u32) -> u32 {
+        let (bit, any) = (1 << (7 + self.rng.below(25)), self.rng.next() as u32 | 1 << 7);
+        self.rng.pick(&[0, 0, 1 << 7, own | 1 << 7, bit, own | bit, u32::MAX, any])
+    }
+
+    /// Over 2, often with a last byte that is not, or for operation 7 under 1.
+    fn odd_level(&mut self, op: u8) -> u32 {
+        if op == SET_KEY && self.rng.chance(60) {
+            return 0;
+        }
+        let (bit, any) = (1 << (8 + self.rng.below(24)), self.rng.next() as u32 | 4);
+        self.rng.pick(&[3, 3, 4, 255, 256, 257, 258, bit, u32::MAX, any])
+    }
+
+    /// Puts a line into the table of a partition. Tells the sink and the ledger.
+    fn put_need(&mut self, p: u8, operation: u8, need: Need) {
+        self.drive.partitions[p as usize].table.0[operation as usize - 1] = need;
+        self.since[p as usize] = Since::default();
+        self.sink.need(&PutNeed { partition: p, operation, need, medium: &self.medium });
+        if let Some(ledger) = &mut self.ledger {
+            ledger.need(p as usize, operation, need);
+        }
+    }
+
     /// An object that leaves the record unsound, and frames that were made for the record as it was: each is row 1. Where every
     /// partition has its 16 objects, the life ends as others do.
     pub(super) fn break_record(&mut self, breach: Breach, calls: usize) {
@@ -222,11 +307,12 @@ mod tests {
     use super::*;
     use crate::rng::Rng;
 
-    /// Keeps what it is told: the calls counted, and the starts of the objects.
+    /// Keeps what it is told: the calls counted, the starts of the objects, and the lines of tables.
     #[derive(Default)]
     struct Told {
         tally: Tally,
         starts: Vec<u32>,
+        needs: Vec<(u8, Need)>,
     }
 
     impl Sink for Told {
@@ -237,25 +323,53 @@ mod tests {
         fn object(&mut self, put: &Put) {
             self.starts.push(put.object.start);
         }
+
+        fn need(&mut self, put: &PutNeed) {
+            self.needs.push((put.operation, put.need));
+        }
     }
 
-    /// So many calls on a drive of this size, among objects from outside.
+    /// So many calls on a drive of this size.
     fn traffic(told: &mut Told, seed: u64, size: usize, calls: usize) -> Traffic<'_> {
         let mut medium = vec![9; size + GUARD];
         let (_, drive) = format(&mut medium[..size], 7, &[0; 32], &[1; 32]);
-        Traffic::new(Rng::new(seed), drive, medium, true, calls, told).with_objects()
+        Traffic::new(Rng::new(seed), drive, medium, true, calls, told)
     }
 
     /// Objects mostly off a step, creates granted and refused among them, each call held to the ledger.
     #[test]
     fn calls_go_on_among_objects_from_outside() {
         let mut told = Told::default();
-        traffic(&mut told, 8, 4_002, 6_000).run();
+        traffic(&mut told, 8, 4_002, 6_000).with_objects().run();
         let off = told.starts.iter().filter(|start| *start % STEP != 0).count();
         assert!(off > 20 && off * 10 > told.starts.len() * 9, "{off} of {}", told.starts.len());
         let tally = told.tally;
         assert!(tally.steps.iter().chain(&tally.steps_of_a_library).all(|n| *n > 0), "{:?} {:?}", tally.steps, tally.steps_of_a_library);
         assert_eq!((tally.unsound, tally.rows.iter().sum::<u64>()), (0, 6_000));
+    }
+
+    /// Tables that no load makes, calls granted and refused by them, each held to the ledger.
+    #[test]
+    fn calls_go_on_by_tables_from_outside() {
+        let mut told = Told::default();
+        traffic(&mut told, 9, 4_002, 6_000).with_needs().run();
+        let bad = told.needs.iter().filter(|(operation, need)| !need.good(*operation)).count();
+        assert!(bad > 20, "{bad} of {}", told.needs.len());
+        let of_a_record = &told.tally.needs_of_a_library[..7];
+        assert!(of_a_record.iter().all(|n| *n > 0), "{of_a_record:?}");
+        assert_eq!((told.tally.rows[0] > 1_500, told.tally.rows.iter().sum::<u64>()), (true, 6_000));
+    }
+
+    /// On the drive of a refused format rows 7 and 8 tell its table, which is document 01's rule.
+    #[test]
+    fn calls_on_the_drive_of_a_refused_format() {
+        let mut told = Told::default();
+        let (row, drive) = format(&mut [0; 9], 0, &[0; 32], &[1; 32]);
+        assert_eq!(row, 25);
+        Traffic::new(Rng::new(10), drive, vec![9; GUARD], true, 400, &mut told).run();
+        let of_a_refused_format = &told.tally.needs_of_a_library[7..];
+        assert!(of_a_refused_format.iter().all(|n| *n > 0), "{of_a_refused_format:?}");
+        assert_eq!((told.tally.rows[0], told.tally.rows.iter().sum::<u64>()), (0, 400));
     }
 
     /// Whatever the clause, and whatever the drive: ten calls are row 1 by it, and all calls are made.
@@ -264,7 +378,7 @@ mod tests {
         for seed in 0..120 {
             let mut told = Told::default();
             let breach = BREACHES[seed % BREACHES.len()];
-            traffic(&mut told, seed as u64, 4 + seed * 7, 60).broken_by(breach, 10).run();
+            traffic(&mut told, seed as u64, 4 + seed * 7, 60).with_objects().broken_by(breach, 10).run();
             assert_eq!((told.tally.unsound, told.tally.rows.iter().sum::<u64>()), (10, 60), "{breach:?}");
         }
     }

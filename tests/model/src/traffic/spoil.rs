@@ -3,6 +3,7 @@
 use super::drafts::{Draft, Sign};
 use super::Traffic;
 use crate::records::*;
+use crate::table::TABLE_BYTES;
 
 impl Traffic<'_> {
     /// Changes a draft so that this row applies to it, where state and operation let it.
@@ -32,7 +33,7 @@ impl Traffic<'_> {
                 4 => d.c.zero = self.rng.pick(&[1, 128, 255]),
                 5 => (d.c.slot, d.c.partition) = (3, 1 + self.rng.below(3) as u8),
                 6 => (d.c.slot, d.c.partition) = (4, 1 + self.rng.below(3) as u8),
-                7 => d.r.operation = self.rng.pick(&[0, 8, 9, 128, 255]),
+                7 => d.r.operation = self.rng.pick(&[0, 9, 10, 128, 255]),
                 8 => d.r.level = self.rng.pick(&[3, 4, 255]),
                 9 => d.r.n = self.rng.pick(&[1_048_577, 0x0100_0000, u32::MAX]),
                 _ => d.r.n = d.r.n.wrapping_add(0x0100_0000),
@@ -47,6 +48,8 @@ impl Traffic<'_> {
                     d.data.pop(); // n is the data's length, and B is not
                     d.r.n = d.r.n.wrapping_sub(1);
                 }
+                4..=7 if op == LOAD => self.resize_a_table(d),
+                6 if op == SET_KEY => (d.data, d.r.n) = (self.rng.bytes(TABLE_BYTES), TABLE_BYTES as u32), // as a load has
                 _ => {
                     let more = 1 + self.rng.below(20) as usize;
                     d.data.extend(self.rng.bytes(more)); // n is the data's length, and wrong
@@ -56,6 +59,7 @@ impl Traffic<'_> {
             6 => {
                 let high = 1 << self.rng.below(32);
                 match (op, any % 4) {
+                    (LOAD, _) => self.misfit_of_a_load(d),
                     (SET_KEY, 0) => d.c.slot = self.rng.below(2) as u8,
                     (SET_KEY, 1) => d.c.version = high,
                     (SET_KEY, 2) => d.r.b = high,
@@ -80,19 +84,12 @@ impl Traffic<'_> {
                     _ => d.r.b = high,
                 }
             }
-            7 => {
-                if op == SET_KEY && any & 1 == 0 {
-                    (d.r.level, d.c.least) = (0, 0);
-                } else {
-                    d.c.least = 1 + self.rng.below(2) as u8;
-                    d.r.level = self.rng.below(d.c.least as u64) as u8;
-                }
-            }
+            7 => self.lower_the_level(d),
             8 => {
                 let mut unset = vec![];
                 for p in 0..4u8 {
                     for slot in 0..3u8 {
-                        let fits = (op == SET_KEY) == (slot == 2);
+                        let fits = (op >= SET_KEY) == (slot == 2);
                         if self.drive.key(slot, p).is_none() && fits {
                             unset.push((slot, p));
                         }
@@ -149,11 +146,7 @@ impl Traffic<'_> {
                     (d.c.holder, d.r.time, d.r.count) = (e.holder, e.time, e.count);
                 }
             }
-            13 => {
-                if (1..=7).contains(&op) {
-                    d.c.rights &= !(1 << (op - 1));
-                }
-            }
+            13 => self.take_rights(d),
             14 => {
                 let mut number = match any % 4 {
                     0 => self.past.iter().rev().find(|(p, ..)| *p == d.c.partition).map_or(40, |(_, o, _)| *o),
@@ -226,6 +219,7 @@ impl Traffic<'_> {
                     d.r.b = self.size_that_fits_nowhere(&partition);
                 }
             }
+            31 => self.spoil_a_table(d),
             _ => {} // 19, 21, 22: by the state; 23: by the space
         }
     }

@@ -1,16 +1,27 @@
 //! What random calls met, counted.
 
+use super::asked::*;
 use super::placing::{STEPS, STEPS_OF_A_LIBRARY};
 use super::{nonce_of, Done};
 
-/// How often each row was the answer, how often another row applied beside it, how often the frame had a twin, and what creates met of
-/// change 3.
+/// Rows 0 to 31; some of them are no answer of gate or format.
+const ROWS: usize = 32;
+
+/// How often each row was the answer, how often another row applied beside it, how often the frame had a twin, and what calls met of
+/// changes 3 and 5.
 pub struct Tally {
-    pub rows: [u64; 31],
-    pub pairs: [[u64; 31]; 31],
+    pub rows: [u64; ROWS],
+    pub pairs: [[u64; ROWS]; ROWS],
     pub beside_a_twin: [u64; BESIDE_A_TWIN.len()],
     pub steps: [u64; STEPS.len()],
     pub steps_of_a_library: [u64; STEPS_OF_A_LIBRARY.len()],
+    pub needs: [u64; NEEDS.len()],
+    pub loads: [u64; LOADS.len()],
+    pub near_loads: [u64; NEAR_LOADS.len()],
+    pub faults: [u64; FAULTS.len()],
+    pub faulty_lines: [u64; FAULTY_LINES.len()],
+    pub after: [u64; AFTER.len()],
+    pub needs_of_a_library: [u64; NEEDS_OF_A_LIBRARY.len()],
     pub unsound: u64,
 }
 
@@ -24,11 +35,18 @@ const UNSOUND: &str = "calls answered row 1 by an unsound record";
 impl Default for Tally {
     fn default() -> Tally {
         Tally {
-            rows: [0; 31],
-            pairs: [[0; 31]; 31],
+            rows: [0; ROWS],
+            pairs: [[0; ROWS]; ROWS],
             beside_a_twin: [0; BESIDE_A_TWIN.len()],
             steps: [0; STEPS.len()],
             steps_of_a_library: [0; STEPS_OF_A_LIBRARY.len()],
+            needs: [0; NEEDS.len()],
+            loads: [0; LOADS.len()],
+            near_loads: [0; NEAR_LOADS.len()],
+            faults: [0; FAULTS.len()],
+            faulty_lines: [0; FAULTY_LINES.len()],
+            after: [0; AFTER.len()],
+            needs_of_a_library: [0; NEEDS_OF_A_LIBRARY.len()],
             unsound: 0,
         }
     }
@@ -60,7 +78,36 @@ impl Tally {
             add(&mut self.steps, placing.met());
             add(&mut self.steps_of_a_library, placing.met_in_a_library());
         }
+        if let Some(asked) = done.asked {
+            self.count_needs(asked);
+        }
+        if let Some(near) = near_load(&done.call.frame, done.row) {
+            self.near_loads[near] += 1;
+        }
         self.unsound += (done.row == 1 && !done.sound) as u64;
+    }
+
+    fn count_needs(&mut self, asked: &Asked) {
+        add(&mut self.needs, asked.met());
+        add(&mut self.loads, asked.met_by_a_load());
+        add(&mut self.after, asked.met_after());
+        add(&mut self.needs_of_a_library, asked.met_in_a_library());
+        if let Some((fault, operation)) = asked.only_fault() {
+            self.faults[fault] += 1;
+            self.faulty_lines[operation as usize - 1] += 1;
+        }
+    }
+
+    /// What is counted of change 5 in every run: names and numbers.
+    pub(super) fn of_tables(&self) -> [(&[&str], &[u64]); 6] {
+        [
+            (&NEEDS, &self.needs),
+            (&LOADS, &self.loads),
+            (&NEAR_LOADS, &self.near_loads),
+            (&FAULTS, &self.faults),
+            (&FAULTY_LINES, &self.faulty_lines),
+            (&AFTER, &self.after),
+        ]
     }
 
     /// Lines `row R: N`; then lines `met WHAT: N` of what the differential tests ask for (`tests/model/met`); then beside which other
@@ -71,6 +118,9 @@ impl Tally {
         }
         print_met(&BESIDE_A_TWIN, &self.beside_a_twin);
         print_met(&STEPS, &self.steps);
+        for (names, counts) in self.of_tables() {
+            print_met(names, counts);
+        }
         let met = self.pairs.iter().flatten().filter(|n| **n > 0).count();
         println!("pairs of an answer and another row that applied: {met}");
         for (first, line) in self.pairs.iter().enumerate() {
@@ -85,6 +135,7 @@ impl Tally {
     /// What a library meets besides, in such lines.
     pub fn print_of_a_library(&self) {
         print_met(&STEPS_OF_A_LIBRARY, &self.steps_of_a_library);
+        print_met(&NEEDS_OF_A_LIBRARY, &self.needs_of_a_library);
         print_met(&[UNSOUND], &[self.unsound]);
     }
 }

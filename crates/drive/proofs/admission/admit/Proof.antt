@@ -1,85 +1,29 @@
--- Row 8, row 9, the judged rows, the grant: each by its law of Admitting.
-use mathlib.Core.Path.{_≡_, sym, ap, subst, _∙_}
-use mathlib.Core.Bool.{true, false}
-use mathlib.Core.Option.{some}
-use mathlib.Core.List.{List, _++_}
-use Prim.Native.Nat.{ℕ, _+_, _-_, _*_, _<_}
+-- Row 7, or what `serve` gave (Admitting).
+use mathlib.Core.Path.{_≡_, refl, sym, _∙_}
+use mathlib.Core.List.{List}
+use Prim.Native.Nat.{ℕ}
 use native.Mathlib.Omega.{arith}
-use lib.ListN.{length, take}
-use borrow.Author.Tests.{not-true, not-false}
-use borrow.Rule.Slice.PartMut.{midOf}
-use Rattle.lemmas.specs.Lists.{part, same}
-use Rattle.lemmas.specs.RowTable.{firstRow}
-use Rattle.digest.specs.Hmac.{hmac}
-use Rattle.digest.specs.Keyed.{Keyed}
+use Rattle.rules.specs.declared.Credential.{Credential}
 use Rattle.rules.specs.declared.Entry.{Entry}
+use Rattle.rules.specs.declared.Need.{Need}
 use Rattle.rules.specs.declared.Request.{Request}
-use Rattle.rules.specs.Frame.{credentialSize, dataStart, fields, covered, keySize}
-use Rattle.rules.specs.Operations.{keyIn, credentialKey}
-use Rattle.rules.specs.Rows.{scopeRows, driveRows}
-use Rattle.keyring.specs.Keys.{keyCount, keysSize, keysIn, isSet, keyIndex}
-use Rattle.keyring.specs.KeyLaws.{set-there, key-in-set, key-in-unset}
-use Rattle.placing.specs.Placing.{placeOption}
-use Rattle.drive.specs.Admission.{scopeFrom, AdmitRequires}
-use Rattle.drive.proofs.Frames.{long, in-four, the-credential, both-records}
-use Rattle.drive.proofs.Admitting.{
-  Prepared,
-  eight,
-  nine,
-  from10,
-  credential-key,
-  refusal-given,
-  granted-given,
-  judge-facts,
-  secret-is,
-}
+use Rattle.rules.specs.Needs.{needUnder}
+use Rattle.rules.specs.Rows.{lowLevel}
+use Rattle.wire.specs.Parse.{numbersOf}
+use Rattle.state.specs.Table.{needsIn}
+use Rattle.drive.specs.Admission.{AdmitRequires, ServeRequires}
+use Rattle.drive.proofs.Frames.{long}
+use Rattle.drive.proofs.Admitting.{level-is, seven, refusal-given}
 use borrow.Author.Needs.{needs}
 use Rattle.drive.proofs.admission.admit.Statement.{statement}
 use Rattle.drive.proofs.admission.admit.Tie as tie
 
 -- ---- the places, each by its neighbour
-abbrev at-key : tie.After-is-set → tie.After-key-index
-at-key t = t .before
+abbrev at-start : tie.After-low-level → tie.Start
+at-start t = t .before .before .before .before .before .before .before .before
 
-abbrev at-start : tie.After-is-set → tie.Start
-at-start t = at-key t .before .before .before .before .before .before .before
-
-abbrev at-set : tie.After-records-mac → tie.Else1
-at-set t = t .before .before
-
-abbrev at-hash : tie.Else2 → tie.After-records-mac
-at-hash t = t .before .before
-
-abbrev at-whole : tie.After-look-up → tie.After-length-with
-at-whole t = t .before
-
-abbrev at-result : tie.After-look-up → tie.After-result-length
-at-result t = at-whole t .before
-
-abbrev at-numbers : tie.After-look-up → tie.After-numbers
-at-numbers t = at-result t .before
-
-abbrev at-signed : tie.After-look-up → tie.Else2
-at-signed t = at-numbers t .before
-
-abbrev at-found : tie.After-judge → tie.After-look-up
-at-found t = t .before .before .before
-
-abbrev at-context : tie.After-grant-arg2 → tie.After-grant-context
-at-context t = t .before .before
-
-abbrev at-judged : tie.After-grant-arg2 → tie.Else3
-at-judged t = at-context t .before
-
--- ---- the start, from each of them
-abbrev start1 : tie.Else1 → tie.Start
-start1 t = at-start (t .before)
-
-abbrev start2 : tie.Else2 → tie.Start
-start2 t = start1 (at-set (at-hash t))
-
-abbrev start3 : tie.After-judge → tie.Start
-start3 t = start2 (at-signed (at-found t))
+abbrev at-level : tie.After-loads-bad-table → tie.After-low-level
+at-level t = t .before .before
 
 -- what was asked, of the entries l
 abbrev Given : tie.Start → List Entry → Type 0
@@ -87,148 +31,58 @@ Given t l =
     let a = t .args in
     AdmitRequires (a .facts) (a .keys .now) (a .table .now) l (a .medium .now) (a .frame .now) (a .c) (a .request)
 
--- ---- past row 8 the key is set
-set-of : (t : tie.Else1) → let a = start1 t .args in isSet (a .keys .now) (keyIndex (a .c .slot) (a .c .partition)) ≡ true
-set-of t =
-    let i = t .before .is-set in
-    ap (isSet (start1 t .args .keys .now)) (sym (at-key (t .before) .key-index .ensures)) ∙ sym (i .ensures)
-    ∙ not-false (i .result) (t .if1 .left)
+-- the level was judged by what the operation needs
+same-level : (t : List ℕ) (c : Credential) (n : Need) (r q : Request) → n ≡ needUnder (needsIn t) (c .slot) (r .operation) → r ≡ q
+    → lowLevel n c r ≡ lowLevel (needUnder (needsIn t) (c .slot) (q .operation)) c q
+same-level t c n r q e f = rw (e, f) refl
 
--- its bytes
-abbrev secret : tie.Else1 → List ℕ
-secret t = let a = start1 t .args in part (a .keys .now) (keySize * keyIndex (a .c .slot) (a .c .partition)) keySize
+judged : (t : tie.After-low-level) → let a = at-start t .args in
+    t .low-level .result
+    ≡ lowLevel (needUnder (needsIn (a .table .now)) (a .c .slot) (numbersOf (a .request) .operation)) (a .c) (numbersOf (a .request))
+judged t =
+    let a = at-start t .args in
+    t .low-level .ensures
+    ∙ same-level (a .table .now) (a .c) _ _ (numbersOf (a .request)) (t .before .need-under .ensures) (t .before .before .numbers .ensures)
 
-found-of : (t : tie.Else1) (l : List Entry) → Given (start1 t) l → let a = start1 t .args in
-    keyIn (keysIn (a .keys .now)) (a .c .partition) (a .c .slot) ≡ some (secret t)
-found-of t l w = let a = start1 t .args in key-in-set (a .keys .now) (a .c .partition) (a .c .slot) (w .keys) (set-of t)
-
--- they are within the keys
-there : (t : tie.Else1) → (length (start1 t .args .keys .now) ≡ keysSize) × (at-key (t .before) .key-index .result < keyCount)
-there t =
-    let a = start1 t .args in
-    let h = set-there (a .keys .now) (keyIndex (a .c .slot) (a .c .partition)) (set-of t) in
-    let e = at-key (t .before) .key-index .ensures in
-    (h .0, omega (arith, h .1))
-
--- the keyed hash has taken credential and request under the credential key
-keyed-of : (t : tie.After-records-mac) (l : List Entry) → Given (start1 (at-set t)) l → let a = start1 (at-set t) .args in
-    Keyed (t .records-mac .result) (credentialKey (keysIn (a .keys .now)) (fields (a .frame .now)))
-    (fields (a .frame .now) .credential ++ fields (a .frame .now) .request)
-keyed-of t l w =
-    let a = start1 (at-set t) .args in
-    let f = a .frame .now in
-    let j = at-key (at-set t .before) .key-index in
-    let key : hmac (midOf (keySize * j .result) (keySize * j .result + keySize - keySize * j .result) (a .keys .now)) (take credentialSize f)
-    ≡ credentialKey (keysIn (a .keys .now)) (fields f) =
-    ap (λ (k : List ℕ). hmac k (take credentialSize f))
-    (secret-is (a .keys .now) (j .result) (keyIndex (a .c .slot) (a .c .partition)) (j .ensures))
-    ∙ ap (hmac (secret (at-set t))) (the-credential f) ∙ credential-key w (found-of (at-set t) l w) in
-    subst (λ (n : List ℕ). Keyed (t .records-mac .result) (credentialKey (keysIn (a .keys .now)) (fields f)) n) (both-records f)
-    (subst (λ (n : List ℕ). Keyed (t .records-mac .result) n (take dataStart f)) key (t .records-mac .ensures))
-
--- the digest compared
-compared : (t : tie.After-is-signed) (l : List Entry) → Given (start1 (at-set (t .before))) l
-    → let a = start1 (at-set (t .before)) .args in let x = fields (a .frame .now) in
-    t .is-signed .result ≡ same (x .digest) (hmac (credentialKey (keysIn (a .keys .now)) x)
-    (covered (a .request .level) (x .credential) (x .request) (x .payload)))
-compared t l w =
-    let a = start1 (at-set (t .before)) .args in
-    t .is-signed .ensures (credentialKey (keysIn (a .keys .now)) (fields (a .frame .now))) (keyed-of (t .before) l w)
-
--- what is worked out before the rows are judged
-prepared : (t : tie.After-judge) → let a = start3 t .args in let n = at-found t in
-    Prepared (a .facts) (a .table .now) (a .c) (a .request) (at-numbers n .numbers .result) (at-result n .result-length .result)
-    (at-whole n .length-with .result) (n .look-up .result) (placeOption (t .before .placement .result))
-prepared t =
-    let n = at-found t in
+-- what `serve` asks
+serving : (t : tie.After-loads-bad-table) (l : List Entry) → Given (at-start (at-level t)) l
+    → let a = at-start (at-level t) .args in
+    ServeRequires (a .facts) (at-level t .before .need-under .result) (t .loads-bad-table .result) (a .keys .now) (a .table .now) l
+    (a .medium .now) (a .frame .now) (a .c) (a .request) (at-level t .before .before .numbers .result)
+serving t l w =
+    let e = at-level t in
     record {
-      numbers = at-numbers n .numbers .ensures;
-      result = at-result n .result-length .ensures;
-      reply = at-whole n .length-with .ensures;
-      named = n .look-up .ensures;
-      placed = t .before .placement .ensures;
+      admits = w;
+      numbers = e .before .before .numbers .ensures;
+      needed = e .before .need-under .ensures;
+      level = sym (e .low-level .ensures) ∙ t .before .if1 .left;
+      load = t .loads-bad-table .ensures;
     }
-
--- the row that the rules give is the one that was judged
-row-of : (t : tie.After-judge) (l : List Entry) → Given (start3 t) l → let a = start3 t .args in
-    firstRow (driveRows (scopeFrom (a .facts) (a .keys .now) (a .table .now) l) (fields (a .frame .now)) (a .reply .now))
-    ≡ t .judge .result
-row-of t l w =
-    let a = start3 t .args in
-    let e = at-signed (at-found t) in
-    let S = scopeFrom (a .facts) (a .keys .now) (a .table .now) l in
-    from10 w (found-of (at-set (at-hash e)) l w) (a .reply .now) (e .before .is-signed .result) (compared (e .before) l w)
-    (not-false (e .before .is-signed .result) (e .if2 .left))
-    ∙ ap (λ (r : Request). firstRow (scopeRows S (a .c) r (length (a .reply .now)))) (sym (at-numbers (at-found t) .numbers .ensures))
-    ∙ sym (t .judge .ensures S (judge-facts w (prepared t)))
 
 returns : tie.Need-returns
 returns c l w =
     let t = c .before .before in
     let a = at-start t .args in
-    let unset : isSet (a .keys .now) (keyIndex (a .c .slot) (a .c .partition)) ≡ false =
-    ap (isSet (a .keys .now)) (sym (at-key t .key-index .ensures)) ∙ sym (t .is-set .ensures)
-    ∙ not-true (t .is-set .result) (c .before .if1 .taken) in
-    refusal-given w (a .reply .now) (c .refusal .result) 8
-    (eight w (a .reply .now) (key-in-unset (a .keys .now) (a .c .partition) (a .c .slot) (w .keys) unset))
-    (λ z. omega arith) (c .refusal .ensures)
+    refusal-given w (a .reply .now) (c .refusal .result) 7
+    (seven w (a .reply .now) (level-is w ∙ sym (judged t) ∙ c .before .if1 .taken)) (λ z. omega arith) (c .refusal .ensures)
 
-mul-from : tie.Need-mul-from
-mul-from c = let h = there c in search needs
+loads-bad-table-requires : tie.Need-loads-bad-table-requires
+loads-bad-table-requires c κs = long (at-start (c .before) .pre .1 .parsed)
 
-add-to : tie.Need-add-to
-add-to c = let h = there c in search needs
-
-part-records-mac-end : tie.Need-part-records-mac-end
-part-records-mac-end c = let h = there c in omega (arith, h)
-
-records-mac-requires : tie.Need-records-mac-requires
-records-mac-requires c κs = let h = long (start1 (c .before) .pre .1 .parsed) in omega arith
-
-is-signed-requires : tie.Need-is-signed-requires
-is-signed-requires c κs = long (start1 (at-set c) .pre .1 .parsed)
+serve-requires : tie.Need-serve-requires
+serve-requires c κs =
+    let t = c .before .before in
+    let p = at-start (at-level t) .pre in
+    (p .0, serving t (p .0) (p .1))
 
 returns-2 : tie.Need-returns-2
 returns-2 c l w =
-    let t = c .before .before in
-    let a = start1 (at-set (t .before)) .args in
-    refusal-given w (a .reply .now) (c .refusal2 .result) 9
-    (nine w (found-of (at-set (t .before)) l w) (a .reply .now) (t .is-signed .result) (compared t l w)
-    (not-true (t .is-signed .result) (c .before .if2 .taken)))
-    (λ z. omega arith) (c .refusal2 .ensures)
-
-cast-placement : tie.Need-cast-placement
-cast-placement c = let h = start2 (at-signed (c .before)) .pre .1 .small in search needs
-
-returns-3 : tie.Need-returns-3
-returns-3 c l w =
-    let t = c .before .before in
-    refusal-given w (start3 t .args .reply .now) (c .refusal3 .result) (t .judge .result) (row-of t l w) (c .before .if3 .taken)
-    (c .refusal3 .ensures)
-
-grant-context-requires : tie.Need-grant-context-requires
-grant-context-requires c κs = let w = start3 (c .before) .pre .1 in (w .small, in-four (w .parsed), w .table)
-
-grant-requires : tie.Need-grant-requires
-grant-requires c κs = long (start3 (at-judged c .before) .pre .1 .parsed)
-
-returns-4 : tie.Need-returns-4
-returns-4 c l w =
-    let g = c .before .before .before .before in
-    let e = at-judged (g .before) in
-    let t = e .before in
-    let a = start3 t .args in
-    let m = at-hash (at-signed (at-found t)) in
-    granted-given w (prepared t) (a .reply .now) (row-of t l w ∙ e .if3 .left) (found-of (at-set m) l w)
-    (at-key (at-set m .before) .key-index .result) (at-key (at-set m .before) .key-index .ensures)
-    (at-context (g .before) .grant-context .result) (at-context (g .before) .grant-context .ensures) _ _ (g .grant .ensures .0)
-    (m .records-mac .result) (keyed-of m l w) (g .grant .ensures .1)
+    let s = c .before .before .before .before in
+    s .serve .ensures l (serving (s .before .before .before) l w)
 
 pub admit-spec : {M : Type 1} → statement M
 admit-spec =
     tie.close
     (tie.spec
-    (λ c. search needs) (λ c κs. search needs) (λ c κs. search needs) (λ c κs. search needs) returns mul-from add-to (λ c. search needs)
-    (λ c. search needs) part-records-mac-end records-mac-requires is-signed-requires (λ c κs. search needs) returns-2 (λ c κs. search needs)
-    (λ c κs. search needs) (λ c κs. search needs) (λ c κs. search needs) cast-placement (λ c κs. search needs) (λ c κs. search needs)
-    (λ c κs. search needs) returns-3 grant-context-requires grant-requires (λ c. search needs) (λ c. search needs) returns-4)
+    (λ c κs. search needs) (λ c κs. search needs) (λ c κs. search needs) (λ c κs. search needs) returns
+    loads-bad-table-requires serve-requires (λ c. search needs) (λ c. search needs) returns-2)

@@ -1,4 +1,4 @@
--- Row 1; the mark and outlived entries; rows 2 to 7; then what `admit` gave (Gates, Scopes).
+-- Row 1; the mark and outlived entries; rows 2 to 6; then what `admit` gave (Gates, Scopes).
 use mathlib.Core.Path.{_≡_, refl, sym, ap, _∙_}
 use mathlib.Core.Bool.{Bool, true, false, _&&_, not}
 use mathlib.Core.List.{[], map}
@@ -71,7 +71,7 @@ at-granted t = t .before
 abbrev at-keys : tie.After-slice-known14 → tie.After-change-keys
 at-keys t = t .before .before
 
-abbrev at-table : tie.After-enter-arg → tie.After-apply
+abbrev at-table : tie.After-enter-arg → tie.After-change-table
 at-table t = t .before .before .before
 
 abbrev at-entered : tie.After-slice-known18 → tie.After-enter
@@ -102,10 +102,10 @@ scope-of t = opening (admit-of t .before)
 abbrev memories-of : tie.After-admit → tie.After-drop-outlived
 memories-of t = fresh-of (at-nonce (opening (t .before) .before))
 
-abbrev table-of : tie.After-slice-known18 → tie.After-apply
+abbrev table-of : tie.After-slice-known18 → tie.After-change-table
 table-of t = at-table (at-entered t .before .before .before)
 
-abbrev grant-of : tie.After-apply → tie.Else2
+abbrev grant-of : tie.After-change-table → tie.Else2
 grant-of t = at-granted (at-keys (t .before .before) .before)
 
 -- ---- the record that is lent
@@ -233,7 +233,7 @@ opened t =
     }
 
 -- the memories are as drop_outlived left them
-left-of : (t : tie.After-apply) → let d = now (fresh-of (at-nonce (scope-of (grant-of t) .before))) in
+left-of : (t : tie.After-change-table) → let d = now (fresh-of (at-nonce (scope-of (grant-of t) .before))) in
     MemoriesFit (d .lengths) (d .entries) (d .times)
 left-of t = fresh-of (at-nonce (scope-of (grant-of t) .before)) .drop-outlived .ensures .1
 
@@ -311,12 +311,15 @@ returns-3 c =
 change-keys-requires : tie.Need-change-keys-requires
 change-keys-requires c κs = long (opened (scope-of (at-granted c)) .parsed)
 
-part-apply-end : tie.Need-part-apply-end
-part-apply-end c =
+part-change-table-end : tie.Need-part-change-table-end
+part-change-table-end c =
     let t = scope-of (at-granted (at-keys c .before)) in
     let h = in-four (opened t .parsed) in
     let w = start3 t .pre .tables in
     omega (arith, h, w)
+
+change-table-requires : tie.Need-change-table-requires
+change-table-requires c κs = long (opened (scope-of (at-granted (at-keys (c .before) .before))) .parsed)
 
 enter-requires : tie.Need-enter-requires
 enter-requires c κs =
@@ -350,8 +353,8 @@ returns-4 c =
     let o = opened (scope-of e) in
     let s = at-nonce (scope-of e .before) in
     let l = n .enter .last in
-    met-granted o (admit-of e .admit .ensures (mem o) (ready o)) (e .if2 .left) (g .change-keys .last .0) (p .apply .last .0)
-    (g .change-keys .ensures) (p .apply .ensures .table (long-part o)) (s .entry-of .result) (s .entry-of .ensures)
+    met-granted o (admit-of e .admit .ensures (mem o) (ready o)) (e .if2 .left) (g .change-keys .last .0) (p .change-table .last .0)
+    (g .change-keys .ensures) (p .change-table .ensures .table (long-part o)) (s .entry-of .result) (s .entry-of .ensures)
     (l .0) (l .1 .0) (l .1 .1 .0) (n .enter .ensures) _ refl
 
 pub put-frame-spec : {M : Type 1} → statement M
@@ -365,6 +368,6 @@ put-frame-spec =
     (λ c. search needs) (λ c. search needs) (λ c. search needs) (λ c. search needs) (λ c. search needs) part-admit-end
     admit-requires (λ c. search needs) (λ c. search needs) same-length-9 same-length-10 same-length-11
     (λ c. search needs) (λ c. search needs) returns-3 change-keys-requires (λ c. search needs)
-    (λ c. search needs) (λ c. search needs) part-apply-end (λ c κs. search needs) enter-requires (λ c. search needs)
+    (λ c. search needs) (λ c. search needs) part-change-table-end change-table-requires enter-requires (λ c. search needs)
     (λ c. search needs) same-length-16 same-length-17 same-length-18 (λ c. search needs)
     (λ c. search needs) returns-4)

@@ -8,10 +8,10 @@ use Rattle.scenario.proofs.player.parsed.Statement.{statement}
 use Rattle.scenario.proofs.player.parsed.Tie as tie
 
 abbrev Inv-loop : tie.InvT-loop
-Inv-loop line base n₀ i₀ n i = (i ≤ 7) × (length n ≡ 76)
+Inv-loop line base n₀ i₀ n i = (i ≤ 14) × (length n ≡ 105)
 
 abbrev μ-loop : tie.MeasureT-loop
-μ-loop line base n₀ i₀ n i = 7 - i
+μ-loop line base n₀ i₀ n i = 14 - i
 
 pub parsed-spec : {M : Type 1} → statement M
 parsed-spec =
