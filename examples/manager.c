@@ -8,20 +8,28 @@
  *   manager write DIR NUMBER < shape         writes a shape at the object's start
  *   manager raise DIR NUMBER                 gives the object its next version: credentials issued for it before open nothing
  *   manager delete DIR NUMBER
+ *   manager group DIR NUMBER MEMBER..        makes object NUMBER the group of these logs, a stack; or, where it is a group already, gives it
+ *                                            these for the next stack: credentials issued for it before open nothing
  *   manager find DIR NUMBER                  learns an object's size and version anew, where the answer to a create or raise was lost
- *   manager issue DIR NUMBER HOLDER read|write MINUTES CREDENTIAL KEY      makes the two files that holder HOLDER needs
+ *   manager issue DIR NUMBER HOLDER read|write MINUTES CREDENTIAL KEY      makes the two files that holder HOLDER needs; of a group they are
+ *                                            for all of its logs, each of which HOLDER may look at, too
+ *
+ * A group's credential knows the group's version and not the log's. So whatever renews a log, a create, a raise or a delete, raises every
+ * group that lists it first; and a group gets its next list after its next version. A group's list is written by `group` alone: so no
+ * group lists a group, whose list its holders could write.
  *
  * Operations and rights of a table have the same words: read, write, look, raise, create, delete, key (for setting one).
  * The store's socket is DIR/socket, or where a link of this name points. Files in DIR: master, drive-key, partition-key and
  * working-key (32 bytes each); table, the operation table that was loaded last (21); object-NUMBER (version and size) for each
- * object; last, the greatest version seen; count, which numbers the frames; lock. All have mode 600, as have CREDENTIAL and KEY. A
- * file is replaced whole or not at all.
- * A `keys` or `table` whose answer was lost is simply done again: what allows them is not what they change.
+ * object; group-NUMBER, a group's list as it was written, empty until it is; last, the greatest version seen; count, which numbers the
+ * frames; lock. All have mode 600, as have CREDENTIAL and KEY. A file is replaced whole or not at all.
+ * A `keys` or `table` whose answer was lost is simply done again: what allows them is not what they change. So is a `group`, after a `find`.
  * Build: cc -Iinclude examples/manager.c target/staticlib/libsolver.a target/staticlib/libstore.a
  */
 #include "wire.h"
 #include "sievelast.h"
 #include "sievelast_store.h"
+#include <dirent.h>
 #include <sys/file.h>
 #include <sys/random.h>
 
@@ -56,6 +64,18 @@ static const char *object_name(uint32_t number)
     static char name[TEXT_BYTES];
     snprintf(name, sizeof name, "object-%" PRIu32, number);
     return name;
+}
+
+static const char *group_name(uint32_t number)
+{
+    static char name[TEXT_BYTES];
+    snprintf(name, sizeof name, "group-%" PRIu32, number);
+    return name;
+}
+
+static int is_there(const char *name)
+{
+    return access(in_dir(name), F_OK) == 0;
 }
 
 /* Replaces a file whole, by one that has reached the disk. */
@@ -218,13 +238,6 @@ static void note_version(struct object *o, struct sievelast_checked result)
     printf("object %" PRIu32 ": %" PRIu32 " bytes, version %" PRIu32 "\n", o->number, o->size, o->version);
 }
 
-static struct object load_object(const char *number)
-{
-    struct object o = {.number = (uint32_t)wire_number(number, UINT32_MAX)};
-    load_numbers(object_name(o.number), &o.version, &o.size);
-    return o;
-}
-
 /* ---- commands */
 static void make(const char *name)
 {
@@ -287,19 +300,14 @@ static void load_table(int count, char **words)
     printf("\n");
 }
 
-static void create(const char *number, const char *size)
+static struct object load_object(uint32_t number)
 {
-    struct object partition = {.version = WIRE_FIRST_VERSION};
-    struct object o = {.number = (uint32_t)wire_number(number, UINT32_MAX), .size = (uint32_t)wire_number(size, UINT32_MAX)};
-    struct sievelast_checked result;
-    uint64_t row = ask_object(partition, (struct sievelast_request){.operation = SIEVELAST_CREATE, .a = o.number, .b = o.size}, NULL,
-                              &result);
-    if (row)
-        wire_refused("not created", row);
-    note_version(&o, result);
+    struct object o = {.number = number};
+    load_numbers(object_name(number), &o.version, &o.size);
+    return o;
 }
 
-static void raise_version(const char *number)
+static void raise_object(uint32_t number)
 {
     struct object o = load_object(number);
     struct sievelast_checked result;
@@ -309,26 +317,150 @@ static void raise_version(const char *number)
     note_version(&o, result);
 }
 
+/* Whether the group's list, as it was written last, has a number. */
+static int lists(uint32_t group, uint32_t number)
+{
+    static uint8_t list[SIEVELAST_MOST_DATA_BYTES];
+    size_t n = wire_load(in_dir(group_name(group)), list, sizeof list);
+    for (size_t at = 0; at + SIEVELAST_MEMBER_BYTES <= n; at += SIEVELAST_MEMBER_BYTES)
+        if (wire_get4(list + at) == number)
+            return 1;
+    return 0;
+}
+
+/* Does something to every group that lists an object; how many do. */
+static int each_group_of(uint32_t number, void (*what)(uint32_t group))
+{
+    DIR *all = opendir(dir);
+    struct dirent *file;
+    uint32_t group;
+    int count = 0;
+    if (!all)
+        wire_fail(dir);
+    while ((file = readdir(all)))
+        if (sscanf(file->d_name, "group-%" SCNu32, &group) == 1 && !strcmp(file->d_name, group_name(group)) && lists(group, number)) {
+            count++;
+            if (what)
+                what(group);
+        }
+    closedir(all);
+    return count;
+}
+
+static void create_object(struct object *o)
+{
+    struct object partition = {.version = WIRE_FIRST_VERSION};
+    struct sievelast_checked result;
+    uint64_t row = ask_object(partition, (struct sievelast_request){.operation = SIEVELAST_CREATE, .a = o->number, .b = o->size}, NULL,
+                              &result);
+    if (row)
+        wire_refused("not created", row);
+    note_version(o, result);
+}
+
 /* An object that is not there was deleted before, and the answer lost. */
-static void delete(const char *number)
+static void delete_object(uint32_t number)
 {
     struct object o = load_object(number);
     struct sievelast_checked result;
     uint64_t row = ask_object(o, (struct sievelast_request){.operation = SIEVELAST_DELETE}, NULL, &result);
     if (row && row != SIEVELAST_ROW_NO_OBJECT)
         wire_refused("not deleted", row);
-    if (unlink(in_dir(object_name(o.number))))
-        wire_fail(number);
-    printf("object %" PRIu32 ": deleted\n", o.number);
+    if (unlink(in_dir(object_name(number))) || (is_there(group_name(number)) && unlink(in_dir(group_name(number)))))
+        wire_fail(in_dir(object_name(number)));
+    printf("object %" PRIu32 ": deleted\n", number);
+}
+
+/* ---- logs and groups */
+static void create(uint32_t number, const char *size)
+{
+    struct object o = {.number = number, .size = (uint32_t)wire_number(size, UINT32_MAX)};
+    each_group_of(number, raise_object);
+    create_object(&o);
+    if (is_there(group_name(number)) && unlink(in_dir(group_name(number)))) /* of a group that came no further than its name */
+        wire_fail(in_dir(group_name(number)));
+}
+
+static void raise_version(uint32_t number)
+{
+    each_group_of(number, raise_object);
+    raise_object(number);
+}
+
+static void delete(uint32_t number)
+{
+    each_group_of(number, raise_object);
+    delete_object(number);
+}
+
+static int by_number(const void *one, const void *other)
+{
+    return memcmp(one, other, SIEVELAST_MEMBER_BYTES); /* the highest byte is the first */
+}
+
+/* Makes a group's list of these members, by rising numbers, of at most a frame's data; its bytes. */
+static uint32_t make_list(uint32_t group, uint8_t *list, int count, char **words)
+{
+    uint32_t n = (uint32_t)count * SIEVELAST_MEMBER_BYTES, before = 0;
+    if (n > SIEVELAST_MOST_DATA_BYTES)
+        wire_wrong("members", "too many");
+    for (int i = 0; i < count; i++) {
+        uint32_t number = (uint32_t)wire_number(words[i], UINT32_MAX);
+        if (number == group || is_there(group_name(number)))
+            wire_wrong(words[i], "a group, and no log");
+        wire_put4(list + i * SIEVELAST_MEMBER_BYTES, number);
+    }
+    qsort(list, (size_t)count, SIEVELAST_MEMBER_BYTES, by_number);
+    for (uint32_t at = 0; at < n; before = wire_get4(list + at), at += SIEVELAST_MEMBER_BYTES)
+        if (wire_get4(list + at) <= before)
+            wire_wrong("members", "each is a number from 1, and comes once");
+    return n;
+}
+
+/* Gives a group its next version, and the size of its next list: by a raise where the size stays, else as a new object. From then on, and
+ * until its list is written, nobody has a credential for it. */
+static void renew_group(struct object *g)
+{
+    int known = is_there(object_name(g->number)), is_group = is_there(group_name(g->number));
+    if (!is_group && (known || each_group_of(g->number, NULL)))
+        wire_wrong(object_name(g->number), "a log, or in the list of another group");
+    if (known && load_object(g->number).size != g->size) {
+        delete_object(g->number);
+        known = 0;
+    }
+    if (known)
+        raise_object(g->number);
+    save(in_dir(group_name(g->number)), NULL, 0);
+    if (!known)
+        create_object(g);
+    *g = load_object(g->number);
+}
+
+static void group(uint32_t number, int count, char **words)
+{
+    static uint8_t list[SIEVELAST_MOST_DATA_BYTES];
+    struct object g = {.number = number, .size = make_list(number, list, count, words)};
+    struct sievelast_checked result;
+    renew_group(&g);
+    uint64_t row = ask_object(g, (struct sievelast_request){.operation = SIEVELAST_WRITE, .b = g.size, .data_len = g.size}, list, &result);
+    if (row)
+        wire_refused("list not written", row);
+    save(in_dir(group_name(number)), list, g.size);
+    printf("group %" PRIu32 ": logs", number);
+    for (uint32_t at = 0; at < g.size; at += SIEVELAST_MEMBER_BYTES)
+        printf(" %" PRIu32, wire_get4(list + at));
+    printf("\n");
 }
 
 /* A shape of more than a frame's data goes in several frames: until the last is granted the object holds a part of it. */
-static void write_shape(const char *number)
+static void write_shape(uint32_t number)
 {
     static uint8_t data[SIEVELAST_MOST_DATA_BYTES];
     struct object o = load_object(number);
     struct sievelast_checked result;
     uint32_t n, at = 0;
+    if (is_there(group_name(number)))
+        wire_wrong(group_name(number), "its list is written by `group`");
     while ((n = (uint32_t)fread(data, 1, sizeof data, stdin)) > 0) {
         uint64_t row = ask_object(o, (struct sievelast_request){.operation = SIEVELAST_WRITE, .a = at, .b = n, .data_len = n}, data,
                                   &result);
@@ -340,9 +472,9 @@ static void write_shape(const char *number)
 }
 
 /* A lost answer gave the object a version just past the last that was seen. A look under any other version is refused by row 15. */
-static void find(const char *number)
+static void find(uint32_t number)
 {
-    struct object o = {.number = (uint32_t)wire_number(number, UINT32_MAX)};
+    struct object o = {.number = number};
     struct sievelast_checked result;
     uint32_t last, unused;
     uint64_t row = SIEVELAST_ROW_VERSION;
@@ -360,33 +492,71 @@ static void find(const char *number)
     printf("object %" PRIu32 ": %" PRIu32 " bytes, version %" PRIu32 "\n", o.number, o.size, o.version);
 }
 
-static void issue(char **words)
+/* What a credential for an object opens. A group's range counts in the bytes of whichever log is named, and a look says how many it has. */
+static struct sievelast_credential credential_for(struct object o, enum sievelast_operation operation)
 {
-    struct object o = load_object(words[0]);
-    enum sievelast_operation operation = !strcmp(words[2], "write") ? SIEVELAST_WRITE : SIEVELAST_READ;
     struct sievelast_credential c = own_credential(SIEVELAST_SLOT_BLACK, operation);
-    uint8_t key[SIEVELAST_KEY_BYTES], credential[SIEVELAST_CREDENTIAL_BYTES];
-    uint64_t minutes = wire_number(words[3], UINT32_MAX);
-    if (operation == SIEVELAST_READ && strcmp(words[2], "read"))
-        wire_wrong(words[2], "neither read nor write");
+    uint8_t number[SIEVELAST_MEMBER_BYTES];
     c.object = o.number;
     c.version = o.version;
     c.end = o.size;
-    c.holder = (uint32_t)wire_number(words[1], UINT32_MAX);
+    if (is_there(group_name(o.number))) {
+        if (wire_load(in_dir(group_name(o.number)), number, sizeof number) == 0)
+            wire_wrong(group_name(o.number), "its list is not written: `group` once more");
+        c.rights |= needed_rights(SIEVELAST_SLOT_BLACK, SIEVELAST_LOOK) | SIEVELAST_GROUP_RIGHT;
+        c.end = UINT32_MAX;
+    }
+    return c;
+}
+
+static void issue(uint32_t number, char **words)
+{
+    struct object o = load_object(number);
+    enum sievelast_operation operation = !strcmp(words[1], "write") ? SIEVELAST_WRITE : SIEVELAST_READ;
+    struct sievelast_credential c = credential_for(o, operation);
+    uint8_t key[SIEVELAST_KEY_BYTES], credential[SIEVELAST_CREDENTIAL_BYTES];
+    uint64_t minutes = wire_number(words[2], UINT32_MAX);
+    if (operation == SIEVELAST_READ && strcmp(words[1], "read"))
+        wire_wrong(words[1], "neither read nor write");
+    c.holder = (uint32_t)wire_number(words[0], UINT32_MAX);
     c.expiry = wire_milliseconds(CLOCK_REALTIME) + minutes * 60000;
     load_key("working-key", key);
     struct sievelast_issued i = sievelast_issue(c, key, sizeof key, credential, sizeof credential);
     if (i.row)
         wire_refused("not issued", i.row);
-    save(words[4], credential, sizeof credential);
-    save(words[5], i.key, sizeof i.key);
-    printf("holder %" PRIu32 " may %s object %" PRIu32 ", version %" PRIu32 ", for %" PRIu64 " minutes\n", c.holder, words[2],
-           o.number, o.version, minutes);
+    save(words[3], credential, sizeof credential);
+    save(words[4], i.key, sizeof i.key);
+    printf("holder %" PRIu32 " may %s %s %" PRIu32 ", version %" PRIu32 ", for %" PRIu64 " minutes\n", c.holder, words[1],
+           c.rights & SIEVELAST_GROUP_RIGHT ? "the logs of group" : "object", o.number, o.version, minutes);
+}
+
+/* A command on an object: its number is the first of the words behind DIR. */
+static int of_object(const char *command, int count, char **words)
+{
+    uint32_t number = (uint32_t)wire_number(words[0], UINT32_MAX);
+    if (count == 2 && !strcmp(command, "create"))
+        create(number, words[1]);
+    else if (count == 1 && !strcmp(command, "write"))
+        write_shape(number);
+    else if (count == 1 && !strcmp(command, "raise"))
+        raise_version(number);
+    else if (count == 1 && !strcmp(command, "delete"))
+        delete(number);
+    else if (count > 1 && !strcmp(command, "group"))
+        group(number, count - 1, words + 1);
+    else if (count == 1 && !strcmp(command, "find"))
+        find(number);
+    else if (count == 6 && !strcmp(command, "issue"))
+        issue(number, words + 1);
+    else
+        return 0;
+    return 1;
 }
 
 int main(int count, char **words)
 {
     const char *command = count > 2 ? words[1] : "";
+    int known = 1;
     if (count == 3 && !strcmp(command, "new")) {
         make(words[2]);
         return 0;
@@ -397,20 +567,11 @@ int main(int count, char **words)
         keys();
     else if (count > 2 && (count - 3) % LINE_WORDS == 0 && !strcmp(command, "table"))
         load_table(count - 3, words + 3);
-    else if (count == 5 && !strcmp(command, "create"))
-        create(words[3], words[4]);
-    else if (count == 4 && !strcmp(command, "write"))
-        write_shape(words[3]);
-    else if (count == 4 && !strcmp(command, "raise"))
-        raise_version(words[3]);
-    else if (count == 4 && !strcmp(command, "delete"))
-        delete(words[3]);
-    else if (count == 4 && !strcmp(command, "find"))
-        find(words[3]);
-    else if (count == 9 && !strcmp(command, "issue"))
-        issue(words + 3);
     else
+        known = count > 3 && of_object(command, count - 3, words + 3);
+    if (!known)
         wire_wrong("usage", "manager new|keys DIR, table DIR [OPERATION RIGHTS LEVEL].., create DIR NUMBER SIZE, "
-                            "write|raise|delete|find DIR NUMBER, issue DIR NUMBER HOLDER read|write MINUTES CREDENTIAL KEY");
+                            "write|raise|delete|find DIR NUMBER, group DIR NUMBER MEMBER.., "
+                            "issue DIR NUMBER HOLDER read|write MINUTES CREDENTIAL KEY");
     return 0;
 }

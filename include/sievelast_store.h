@@ -13,7 +13,8 @@
  * A call is whole only once it has returned. A program stopped within a grant leaves medium and record as far as the call came:
  * some of the medium's bytes, the keys and the tables may be new while the nonce is not yet entered. Until the drive covers
  * that itself (change 14 of its requests), the caller must keep the frame and a copy of the record from before the call to do it
- * again: examples/drive_file.h shows how. A refused format leaves the medium and overwrites the record.
+ * again, and for a write through a group into the group itself the list too, by whose bytes the frame is judged: examples/drive_file.h
+ * shows how. A refused format leaves the medium and overwrites the record.
  */
 #ifndef SIEVELAST_STORE_H
 #define SIEVELAST_STORE_H
@@ -32,8 +33,8 @@ extern "C" {
                                        gave it; then of operations 1 to 7 the seven masks and the seven least levels. Row 1 asks
                                        for no step, and for no good table: whatever number stands there counts with all its bits */
 #define SIEVELAST_RECORD_PLACES 320 /* entries: 64 for each replay memory */
-#define SIEVELAST_RECORD_ENTRY 4    /* numbers of an entry: slot, holder, count, the credential's object; its time stands in a row of
-                                       its own */
+#define SIEVELAST_RECORD_ENTRY 4    /* numbers of an entry: slot, holder, count, the credential's object (a group, not its member); its
+                                       time stands in a row of its own */
 #define SIEVELAST_RECORD_ENTRIES (SIEVELAST_RECORD_PLACES * SIEVELAST_RECORD_ENTRY) /* numbers of all, those of an entry together */
 
 /* The drive's record. First what battery memory would keep, then what a drive may lose. A caller may read `size` and `highwater`
@@ -51,7 +52,7 @@ struct sievelast_drive {
 
 /* ---- the gate's and the issuer's answers */
 struct sievelast_answered {
-    uint64_t row;    /* 0, or 1 to 23, or 31 */
+    uint64_t row;    /* 0, or 1 to 23, or 31 to 34 */
     uint64_t length; /* bytes of the reply at the start of reply; 0 when refused */
 };
 
@@ -66,12 +67,13 @@ struct sievelast_digest {
 };
 
 /* Writes the 36 bytes of a credential at the start of space and gives its key, from the key of its slot (32 bytes). Row 28: a
- * field is none that a drive takes. Bytes of space after the credential keep their values; a refused call writes none. */
+ * field is none that a drive takes. No more is asked: a group credential is issued for object 0, too, or for an object that is no group,
+ * and opens nothing. Bytes of space after the credential keep their values; a refused call writes none. */
 struct sievelast_issued sievelast_issue(struct sievelast_credential fields, const uint8_t *key, size_t key_len, uint8_t *space,
                                         size_t space_len);
 
 /* HMAC with SHA-256, for whoever sets keys: operation 7's new key is the HMAC, under the signing slot's key, of the request's 28
- * bytes and the seed's 16. */
+ * bytes and the seed's 16. A group's request, of 32 bytes, sets no key. */
 struct sievelast_digest sievelast_hmac(const uint8_t *key, size_t key_len, const uint8_t *message, size_t message_len);
 
 /* ---- format and gate as the archive exports them, over a record's parts: use the two below, which pass them in order */

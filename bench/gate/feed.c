@@ -66,19 +66,26 @@ static size_t result_length(const uint8_t *request)
     return operation == 1 ? b < MOST_DATA ? b : 0 : fixed[operation];
 }
 
+/* By its mark. */
+static size_t request_length(const uint8_t *request)
+{
+    return number(request, 2) == 0x4c47 ? GROUP_REQUEST : REQUEST;
+}
+
 static void put_digests(const uint8_t *frame, size_t n)
 {
     const uint8_t *request = frame + CREDENTIAL, *end = frame + n - DIGEST;
     const uint8_t *key = keys[frame[3] % 5][frame[2] % 4];
     uint8_t credential_key[DIGEST], digest[DIGEST];
     int level = request[3] % 4;
+    size_t start = CREDENTIAL + request_length(request);
     hmac(key, frame, CREDENTIAL, NULL, 0, credential_key);
-    hmac(credential_key, frame, level ? (size_t)(end - frame) : CREDENTIAL + REQUEST, NULL, 0, digest);
+    hmac(credential_key, frame, level ? (size_t)(end - frame) : start, NULL, 0, digest);
     same += !memcmp(digest, end, DIGEST);
     if (request[2] == 7)
         set_key(frame, request, key);
     if (level == 2)
-        hmac(credential_key, frame, CREDENTIAL + REQUEST, reply, 8 + result_length(request), digest);
+        hmac(credential_key, frame, start, reply, 8 + result_length(request), digest);
 }
 
 static void copy(const uint8_t *request, size_t n)

@@ -1,7 +1,9 @@
 #!/usr/bin/env python3
-"""The gate against its own hashing, by value and, for looks and refusals, over a record that is lent. For each case two inputs are made (frames.c), one of them without the frames that are
-measured, and gate_bench and the programs that it is compared with (feed.c) are run on both by turns. A process's time is its
-processor time on the one input less that on the other, and less what the process that only reads takes."""
+"""The gate against its own hashing, by value and, for looks, refusals and reads through a group, over a record that is lent. For each
+case two inputs are made (frames.c), one of them without the frames that are measured, and gate_bench and the programs that it is
+compared with (feed.c) are run on both by turns. A process's time is its processor time on the one input less that on the other, and
+less what the process that only reads takes. A read through a group has two inputs more, of the same read by the log's own
+credential."""
 
 import os
 import sys
@@ -11,11 +13,13 @@ import tables  # noqa: E402
 from processes import *  # noqa: E402, F403
 
 BEFORE = os.path.join(FOLDER, "input-before")
+OWN = [os.path.join(FOLDER, "input-own"), os.path.join(FOLDER, "input-own-before")]
 MOST_BYTES = 512 << 20
 MOST_FRAMES = 500_000  # the entries that fill the memories stay for 600,000
 BIG = 1 << 20          # an object that is read and written
 SMALL = 8192           # one that the program `gate` has room for as well
 SIZES = [64, 512, 4096, 65536]
+LISTS = [1, 16, 4096]  # numbers in a group
 
 
 def check_rows():
@@ -28,9 +32,9 @@ def check_rows():
                 sys.exit(f"not refused by row {kind}")
 
 
-def taken(words):
+def taken(words, inputs=(INPUT, BEFORE)):
     """What the frames that are measured cost a process."""
-    return spent(words, INPUT) - spent(words, BEFORE)
+    return spent(words, inputs[0]) - spent(words, inputs[1])
 
 
 def frames_of(kind, size, level):
@@ -100,6 +104,34 @@ def print_moves(kind, sizes):
     tables.table(f"{kind.title()}s", HEADS + ["over a plain copy"], rows)
 
 
+def group_cells(numbers, size, state):
+    """Of reads at level 0 through a group, by value and then lent: ns a call, over our hashing, and how often it takes the time of the
+    same read by the log's own credential."""
+    frames = int(SECONDS / (2e-6 + 1e-9 * numbers))
+    calls, own = [make(path, f"{kind}{numbers}", size, 0, state, frames, SMALL) - make(before, f"{kind}{numbers}", size, 0, state, 0, SMALL)
+                  for kind, (path, before) in [("group", (INPUT, BEFORE)), ("own", OWN)]]
+    sides = {"gate": GATE_BENCH, "lent": LENT}
+    times = {name: [] for name in ["ours", *sides, "own gate", "own lent"]}
+    for _ in range(TURNS):
+        read, own_read = taken(READ), taken(READ, OWN)
+        times["ours"].append((taken(feed("ours")) - read) / calls)
+        for name, words in sides.items():
+            times[name].append((taken(words) - read) / calls)
+            times[f"own {name}"].append((taken(words, OWN) - own_read) / own)
+    found = []
+    for name in sides:
+        found += [nanoseconds(times[name]), ratio(times[name], times["ours"]), ratio(times[name], times[f"own {name}"])]
+    tables.keep(f"group{numbers} {size} 0 {state}", found)
+    return [tables.shown(*f) for f in found]
+
+
+def print_groups(size):
+    rows = [[f"read of {size:,}, a list of {numbers:,}, {state}"] + group_cells(numbers, size, state)
+            for numbers in LISTS for state in ["empty", "full"]]
+    columns = ["ns a call", "over our hashing", "over the plain read"]
+    tables.table("Reads through a group, level 0", [""] + columns + ["lent: ns a call"] + columns[1:], rows)
+
+
 def print_refusals():
     rows = [[f"refused by row {row}, {state}"] + cells(str(row), 0, 0, state)
             for row in range(2, 8) for state in ["empty", "full"]]
@@ -115,8 +147,9 @@ def main():
     print_looks()
     print_moves("read", SIZES)
     print_moves("write", SIZES + [BIG])
+    print_groups(SIZES[0])
     print_refusals()
-    remove(INPUT, BEFORE)
+    remove(INPUT, BEFORE, *OWN)
 
 
 if __name__ == "__main__":

@@ -12,6 +12,7 @@ enum {
     MOST_FRAME = 1052658,
     CREDENTIAL = 36,
     REQUEST = 28,
+    GROUP_REQUEST = 32, /* of a group credential */
     DIGEST = 32,
     MEDIUM = 4259840,  /* gate_bench's M */
     MOST_DATA = 1 << 20,

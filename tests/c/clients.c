@@ -3,15 +3,16 @@
  *   clients messages SOCKET                                 the bytes of a message and its answer; two messages on a connection
  *   clients junk SOCKET SEED                                bytes without sense, messages broken off
  *   clients flood SOCKET WRITE-CREDENTIAL KEY MOST          costly frames without a pause until the store ends: in time MOST
- *   clients overlong SOCKET CREDENTIAL KEY                  frames over the bound: the row, then the end of the connection
+ *   clients overlong SOCKET CREDENTIAL KEY [MEMBER]         frames over the bound: the row, then the end of the connection
  *   clients stall SOCKET CREDENTIAL KEY TIMEOUT             five ways to be slow: each dropped in time, others answered meanwhile
  *   clients crowd SOCKET CREDENTIAL KEY PLACES TIMEOUT      as many clients as there are places, and more
  *   clients parts SOCKET WRITE-CREDENTIAL KEY READ-CREDENTIAL KEY < shape > shape      a shape written and read in small parts
  *   clients old SOCKET CREDENTIAL KEY AGE < shape           writes a shape by a frame that says it is AGE old
+ *   clients member SOCKET CREDENTIAL KEY MEMBER < shape > frame      writes a shape of any length through a group
  *   clients kills STORE FILE SOCKET WRITE-CREDENTIAL KEY READ-CREDENTIAL KEY ROUNDS LOG     a server killed while frames stream in
  *
- * Credentials are for an object of OBJECT_BYTES. Times in milliseconds. The status is 1 after the first answer that is not as it must
- * be, which is printed beside the one expected. */
+ * Credentials are for an object of OBJECT_BYTES, or with MEMBER for a group. Times in milliseconds. The status is 1 after the first
+ * answer that is not as it must be, which is printed beside the one expected. */
 #include "wire.h"
 #include "sievelast.h"
 #include <poll.h>
@@ -28,10 +29,12 @@
 
 struct holder {
     uint8_t credential[SIEVELAST_CREDENTIAL_BYTES], key[SIEVELAST_KEY_BYTES];
+    size_t request_len; /* of its requests; a group's are for .. */
+    uint32_t member;
 };
 
 struct message {
-    uint8_t request[SIEVELAST_REQUEST_BYTES];
+    uint8_t request[SIEVELAST_GROUP_REQUEST_BYTES];
     uint8_t frame[SIEVELAST_MOST_FRAME_BYTES];
     size_t length;
 };
@@ -78,9 +81,18 @@ static uint64_t random_below(uint64_t most)
 
 static struct holder load_holder(char **names)
 {
-    struct holder h;
+    struct holder h = {.request_len = SIEVELAST_REQUEST_BYTES};
     wire_load_exact(names[0], h.credential, sizeof h.credential);
     wire_load_exact(names[1], h.key, sizeof h.key);
+    return h;
+}
+
+/* The holder of a group's credential, who asks for one of its logs. */
+static struct holder load_member(char **names, const char *member)
+{
+    struct holder h = load_holder(names);
+    h.request_len = SIEVELAST_GROUP_REQUEST_BYTES;
+    h.member = (uint32_t)wire_number(member, UINT32_MAX);
     return h;
 }
 
@@ -92,8 +104,11 @@ static void build(struct message *m, const struct holder *h, enum sievelast_oper
     struct sievelast_request r = {.operation = (uint8_t)operation, .level = SIEVELAST_LEVEL_REPLY, .b = length, .data_len = n};
     r.time = wire_milliseconds(CLOCK_REALTIME) - age;
     r.count = (uint32_t)getpid() << 12 | count++;
-    sievelast_request_encode(r, m->request, sizeof m->request);
-    struct sievelast_built b = sievelast_build(h->credential, sizeof h->credential, m->request, sizeof m->request, data, n, h->key,
+    if (h->request_len == SIEVELAST_GROUP_REQUEST_BYTES)
+        sievelast_group_request_encode(r, h->member, m->request, h->request_len);
+    else
+        sievelast_request_encode(r, m->request, h->request_len);
+    struct sievelast_built b = sievelast_build(h->credential, sizeof h->credential, m->request, h->request_len, data, n, h->key,
                                                sizeof h->key, m->frame, sizeof m->frame);
     expect("row of the builder", 0, b.row);
     m->length = b.length;
@@ -126,7 +141,7 @@ static void receive_granted(int s, const struct holder *h, const struct message 
 {
     size_t n = 0;
     expect("row of a frame that must be granted", 0, receive(s, &n));
-    struct sievelast_checked c = sievelast_check(h->credential, sizeof h->credential, m->request, sizeof m->request, h->key,
+    struct sievelast_checked c = sievelast_check(h->credential, sizeof h->credential, m->request, h->request_len, h->key,
                                                  sizeof h->key, reply, n);
     expect("row of the reply check", 0, c.row);
     expect("bytes of the result", result_len, c.length);
@@ -397,19 +412,37 @@ static void parts(const char *path, const struct holder *writer, const struct ho
     expect("bytes printed", OBJECT_BYTES, fwrite(reply + SIEVELAST_REPLY_HEAD_BYTES, 1, OBJECT_BYTES, stdout));
 }
 
-/* ---- a frame that is about to run out */
-static void old(const char *path, const struct holder *writer)
+/* ---- one write of so many bytes */
+static void write_once(const char *path, const struct holder *writer, uint32_t length, struct message *m)
 {
-    static struct message m;
     struct wire_answer a;
-    expect("bytes of the shape", sizeof data, fread(data, 1, sizeof data, stdin));
     int s = wire_reach(path);
-    build(&m, writer, SIEVELAST_WRITE, OBJECT_BYTES);
-    wire_send(s, m.frame, m.length);
+    build(m, writer, SIEVELAST_WRITE, length);
+    wire_send(s, m->frame, m->length);
     if (!wire_receive(s, &a, reply, sizeof reply))
         wire_fail(path);
     if (a.row)
         wire_refused("not written", a.row);
+    struct sievelast_checked c = sievelast_check(writer->credential, sizeof writer->credential, m->request, writer->request_len,
+                                                 writer->key, sizeof writer->key, reply, a.length);
+    expect("row of the reply check", 0, c.row);
+    close(s);
+}
+
+/* By a frame that is about to run out. */
+static void old(const char *path, const struct holder *writer)
+{
+    static struct message m;
+    expect("bytes of the shape", sizeof data, fread(data, 1, sizeof data, stdin));
+    write_once(path, writer, OBJECT_BYTES, &m);
+}
+
+/* Through a group. */
+static void write_member(const char *path, const struct holder *writer)
+{
+    static struct message m;
+    write_once(path, writer, (uint32_t)fread(data, 1, sizeof data, stdin), &m);
+    expect("bytes printed", m.length, fwrite(m.frame, 1, m.length, stdout));
 }
 
 /* ---- a server killed while frames stream in */
@@ -510,6 +543,22 @@ static void kills(char **words, const struct holder *writer, const struct holder
     printf("%u shapes sent\n", value);
 }
 
+/* The plays with MEMBER, or without one where it may be left out; whether the command is one of them. */
+static int play_group(const char *command, int count, char **words)
+{
+    struct holder h;
+    if ((count == 5 || count == 6) && !strcmp(command, "overlong")) {
+        h = count == 6 ? load_member(words + 3, words[5]) : load_holder(words + 3);
+        overlong(words[2], &h);
+    } else if (count == 6 && !strcmp(command, "member")) {
+        h = load_member(words + 3, words[5]);
+        write_member(words[2], &h);
+    } else {
+        return 0;
+    }
+    return 1;
+}
+
 int main(int count, char **words)
 {
     const char *command = count > 2 ? words[1] : "";
@@ -522,9 +571,6 @@ int main(int count, char **words)
     } else if (count == 6 && !strcmp(command, "flood")) {
         one = load_holder(words + 3);
         flood(words[2], &one, wire_number(words[5], UINT32_MAX));
-    } else if (count == 5 && !strcmp(command, "overlong")) {
-        one = load_holder(words + 3);
-        overlong(words[2], &one);
     } else if (count == 6 && !strcmp(command, "stall")) {
         one = load_holder(words + 3);
         stall(words[2], &one, wire_number(words[5], UINT32_MAX));
@@ -544,8 +590,8 @@ int main(int count, char **words)
         one = load_holder(words + 5);
         two = load_holder(words + 7);
         kills(words + 2, &one, &two, wire_number(words[9], 1000));
-    } else {
-        wire_wrong("usage", "clients messages|junk|flood|overlong|stall|crowd|parts|old|kills ..: see the top of clients.c");
+    } else if (!play_group(command, count, words)) {
+        wire_wrong("usage", "clients messages|junk|flood|overlong|stall|crowd|parts|old|member|kills ..: see the top of clients.c");
     }
     return 0;
 }

@@ -8,7 +8,7 @@
 enum {
     DRAFT_DATA = 700,   /* most bytes of a read or write: more than the eight blocks that a digest may take at once */
     DRAFT_REPLY = 1200, /* most bytes of a reply space */
-    DRAFT_FRAME = SIEVELAST_LEAST_FRAME_BYTES + DRAFT_DATA + 8
+    DRAFT_FRAME = SIEVELAST_GROUP_FRAME_BYTES + DRAFT_DATA + 8
 };
 
 struct choices {
@@ -48,24 +48,37 @@ static inline uint32_t choose(struct choices *s, uint64_t below)
 struct draft {
     struct sievelast_credential who;
     struct sievelast_request what;
+    int grouped;     /* the request is a group's, .. */
+    uint32_t member; /* .. with this member */
     uint64_t clock;
     size_t length;
     uint8_t frame[DRAFT_FRAME];
 };
 
+/* Where the data of a frame stands, and how long the frame is. */
+static inline size_t draft_records_length(const struct draft *f)
+{
+    return SIEVELAST_CREDENTIAL_BYTES + (f->grouped ? SIEVELAST_GROUP_REQUEST_BYTES : SIEVELAST_REQUEST_BYTES);
+}
+
+static inline size_t draft_length(const struct draft *f) { return draft_records_length(f) + f->what.data_len + SIEVELAST_DIGEST_BYTES; }
+
 /* "A grant of operation 8, like one that sets a key, is bound to no version": the credential's is 0. */
 static inline int draft_unversioned(const struct draft *f) { return f->what.operation >= SIEVELAST_SET_KEY; }
 
-/* Slot, partition, object and its present version. What would need an object where there is none mostly creates one. */
+/* How many objects a table has, as far as it has places. */
+static inline uint32_t draft_count(const uint32_t *t) { return t[COUNT_AT] < SIEVELAST_MOST_OBJECTS ? t[COUNT_AT] : SIEVELAST_MOST_OBJECTS; }
+
+/* Slot, partition, object and its present version. What would need an object where there is none, a group too, mostly creates one. */
 static inline void draft_who(struct draft *f, struct sievelast_drive *d, struct choices *s)
 {
-    int op = f->what.operation, named = op == SIEVELAST_READ || op == SIEVELAST_WRITE || op == SIEVELAST_DELETE;
+    int op = f->what.operation, named = op == SIEVELAST_READ || op == SIEVELAST_WRITE || op == SIEVELAST_DELETE || f->grouped;
     struct sievelast_credential who = {UINT64_MAX, 0, 0, 0, UINT32_MAX, 0, SIEVELAST_EVERY_RIGHT, 0, 0, 0};
     uint32_t place = choose(s, 2 * SIEVELAST_PARTITIONS);
     who.slot = (uint8_t)(op == SIEVELAST_SET_KEY ? 2 + choose(s, 3) : op == SIEVELAST_LOAD_TABLE ? 2 : choose(s, 2));
     who.partition = (uint8_t)(who.slot < 3 && place < SIEVELAST_PARTITIONS ? place : 0); /* partition 0 more often, so that it fills */
     who.holder = choose(s, 4);
-    uint32_t *t = table_of(d, who.partition), n = t[COUNT_AT] < SIEVELAST_MOST_OBJECTS ? t[COUNT_AT] : SIEVELAST_MOST_OBJECTS;
+    uint32_t *t = table_of(d, who.partition), n = draft_count(t);
     if (!draft_unversioned(f))
         who.version = t[VERSION_AT];
     if (n && (named || ((op == SIEVELAST_LOOK || op == SIEVELAST_RAISE) && choose(s, 2)))) {
@@ -76,8 +89,57 @@ static inline void draft_who(struct draft *f, struct sievelast_drive *d, struct 
         who.object = 1;
     } else if (named) {
         f->what.operation = SIEVELAST_CREATE;
+        f->grouped = 0;
     }
     f->who = who;
+}
+
+/* ---- lists for groups, put where an object's bytes are: no call need have written them */
+/* Rising numbers, and one thing of a list that may be wrong. */
+static inline void draft_numbers(uint8_t *bytes, uint32_t *size, struct choices *s)
+{
+    uint32_t way = choose(s, 16), first = 1 + choose(s, 4), step = 1 + choose(s, 3), n = *size / 4, at = n > 1 ? 1 + choose(s, n - 1) : 0;
+    for (uint32_t i = 0; i < n; i++)
+        put_number(bytes + 4 * i, 4, first + i * step);
+    switch (way) {
+    case 1: put_number(bytes, 4, 0); break;
+    case 2: put_number(bytes + 4 * at, 4, at ? first + (at - 1) * step : first); break; /* two are equal */
+    case 3: put_number(bytes + 4 * at, 4, at > 1 ? first + (at - 2) * step : 0); break; /* one falls */
+    case 4: put_number(bytes + 4 * (n - 1), 4, UINT32_MAX); break;
+    case 5: *size -= choose(s, 4); break;
+    case 6: *size = 4; break;
+    default: break;
+    }
+}
+
+/* The draft's object becomes a group, and loses what is over a multiple of four; or it stays as it is. One of its numbers. */
+static inline uint32_t draft_list(const struct draft *f, struct sievelast_drive *d, uint8_t *medium, struct choices *s)
+{
+    uint32_t *t = table_of(d, f->who.partition), i = find_object(t, f->who.object), *size = &t[SIZES_AT + i];
+    if (!sound_table(t, quarter_of(d)) || i == t[COUNT_AT] || *size < 4)
+        return 1;
+    uint8_t *bytes = object_bytes(d, medium, f->who.partition, f->who.object);
+    if (choose(s, 4) < 3) {
+        *size -= *size % 4;
+        draft_numbers(bytes, size, s);
+    }
+    return *size < 4 ? 1 : (uint32_t)number(bytes + 4 * choose(s, *size / 4), 4);
+}
+
+/* A group credential, mostly for an object with a list, and a member, mostly one of it. */
+static inline void draft_member(struct draft *f, struct sievelast_drive *d, uint8_t *medium, struct choices *s)
+{
+    const uint32_t *t = table_of(d, f->who.partition), n = draft_count(t);
+    f->who.rights |= SIEVELAST_GROUP_RIGHT;
+    f->member = medium ? draft_list(f, d, medium, s) : 1;
+    switch (choose(s, 16)) {
+    case 1: f->member = 0; break;
+    case 2: f->member = f->who.object; break;
+    case 3: f->member = UINT32_MAX; break;
+    case 4: f->member = 1 + choose(s, 8); break;
+    case 5: f->member = n ? t[NUMBERS_AT + choose(s, n)] : 1; break;
+    default: break;
+    }
 }
 
 /* A clock reading near the mark, and a time near the mark that it makes: at the edges of row 11, or within. */
@@ -104,8 +166,8 @@ static inline struct need draft_need(const struct draft *f, struct sievelast_dri
 /* A and B, the data's length, and a level that is enough, where there is one. */
 static inline void draft_what(struct draft *f, struct sievelast_drive *d, struct choices *s)
 {
-    uint32_t *t = table_of(d, f->who.partition), i = 0;
-    while (i + 1 < SIEVELAST_MOST_OBJECTS && t[NUMBERS_AT + i] != f->who.object)
+    uint32_t *t = table_of(d, f->who.partition), i = 0, target = f->grouped ? f->member : f->who.object;
+    while (i + 1 < SIEVELAST_MOST_OBJECTS && t[NUMBERS_AT + i] != target)
         i++;
     uint64_t size = t[SIZES_AT + i] < 65536 ? t[SIZES_AT + i] : 65536;
     struct sievelast_request *r = &f->what;
@@ -162,7 +224,7 @@ static inline void draft_table(uint8_t *data, struct choices *s)
 
 static inline void draft_data(struct draft *f, struct choices *s)
 {
-    uint8_t *data = f->frame + SIEVELAST_CREDENTIAL_BYTES + SIEVELAST_REQUEST_BYTES;
+    uint8_t *data = f->frame + draft_records_length(f);
     for (uint32_t i = 0; i < f->what.data_len; i++)
         data[i] = (uint8_t)(f->what.count + 1 + 7 * i);
     if (f->what.operation == SIEVELAST_LOAD_TABLE)
@@ -207,10 +269,10 @@ static inline void draft_rights(struct draft *f, struct sievelast_drive *d, stru
         mask &= ~((uint32_t)1 << bit);
     else if (way == 2)
         mask = SIEVELAST_RIGHT(f->what.operation);
-    f->who.rights = (uint16_t)(mask & SIEVELAST_EVERY_RIGHT);
+    f->who.rights = (uint16_t)((mask & SIEVELAST_EVERY_RIGHT) | (f->grouped ? SIEVELAST_GROUP_RIGHT : 0));
 }
 
-/* One field that a row from 7 to 20 is about, mostly none. */
+/* One field that a row from 6 to 20, or 32 to 34, is about, mostly none. */
 static inline void spoil_field(struct draft *f, struct sievelast_drive *d, struct choices *s)
 {
     struct sievelast_credential *who = &f->who;
@@ -237,6 +299,10 @@ static inline void spoil_field(struct draft *f, struct sievelast_drive *d, struc
     case 19:
     case 20: draft_rights(f, d, s); break;
     case 21: what->level -= what->level > 0; break;
+    case 22: f->member++; break;
+    case 23: who->rights ^= SIEVELAST_GROUP_RIGHT; break;
+    case 24: f->grouped = !f->grouped; break;
+    case 25: who->object = f->grouped ? f->member : who->object; break;
     default: break;
     }
 }
@@ -257,7 +323,7 @@ static inline void draft_records(struct draft *f)
     put_number(c + 20, 4, f->who.end);
     put_number(c + 24, 8, f->who.expiry);
     put_number(c + 32, 4, f->who.holder);
-    put_number(r, 2, 0x4c52);
+    put_number(r, 2, f->grouped ? 0x4c47 : 0x4c52);
     r[2] = f->what.operation;
     r[3] = f->what.level;
     put_number(r + 4, 8, f->what.time);
@@ -265,6 +331,8 @@ static inline void draft_records(struct draft *f)
     put_number(r + 16, 4, f->what.a);
     put_number(r + 20, 4, f->what.b);
     put_number(r + 24, 4, f->what.data_len);
+    if (f->grouped)
+        put_number(r + 28, 4, f->member);
 }
 
 /* Signs the frame by the record's own keys, where its slot and partition name one. */
@@ -284,25 +352,45 @@ static inline void spoil_byte(struct draft *f, size_t n, struct choices *s)
     f->frame[at] ^= (uint8_t)(1 + choose(s, 255));
 }
 
-static inline void draft_call(struct draft *f, struct sievelast_drive *d, struct choices *s)
+/* Another length than the frame's parts have together, mostly not. */
+static inline void draft_cut(struct draft *f, struct choices *s)
 {
+    uint32_t way = choose(s, 32);
+    if (way == 1)
+        f->length = choose(s, sizeof f->frame + 1);
+    else if (way == 2)
+        f->length -= 1 + choose(s, 5);
+    else if (way == 3)
+        f->length += 1 + choose(s, 4);
+}
+
+/* A call drafted for a record. The medium, where it is as the record says, else NULL, is for a group's list. */
+static inline void draft_call(struct draft *f, struct sievelast_drive *d, uint8_t *medium, struct choices *s)
+{
+    enum { ANY_OPERATION = 21 }; /* a group's request for one that no group has */
     static const uint8_t operations[] = {SIEVELAST_READ,   SIEVELAST_WRITE,  SIEVELAST_LOOK,    SIEVELAST_RAISE, SIEVELAST_CREATE,
                                          SIEVELAST_DELETE, SIEVELAST_SET_KEY, SIEVELAST_CREATE, SIEVELAST_READ,  SIEVELAST_WRITE,
                                          SIEVELAST_LOAD_TABLE};
-    f->what.operation = operations[choose(s, sizeof operations)];
+    uint8_t kind = choose_byte(s), form = kind / sizeof operations;
+    f->what.operation = operations[kind % sizeof operations];
     f->what.level = (uint8_t)choose(s, 3);
+    f->grouped = form % 4 == 1;
+    f->member = 0;
+    if (f->grouped && form != ANY_OPERATION)
+        f->what.operation = (uint8_t)(SIEVELAST_READ + f->what.operation % SIEVELAST_LOOK);
     draft_who(f, d, s);
+    if (f->grouped)
+        draft_member(f, d, medium, s);
     draft_when(f, d, s);
     draft_what(f, d, s);
     spoil_field(f, d, s);
     draft_records(f);
-    f->length = SIEVELAST_LEAST_FRAME_BYTES + f->what.data_len;
+    f->length = draft_length(f);
     draft_data(f, s);
-    spoil_byte(f, 64, s);
+    spoil_byte(f, draft_records_length(f), s);
     draft_sign(f, d);
     spoil_byte(f, f->length, s);
-    if (choose(s, 32) == 1)
-        f->length = choose(s, sizeof f->frame + 1);
+    draft_cut(f, s);
 }
 
 /* How much reply space to lend: mostly what the request calls for and something more. */

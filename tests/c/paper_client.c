@@ -11,12 +11,13 @@ struct sievelast_built sievelast_build(const uint8_t *credential, size_t credent
     struct sievelast_built b = {paper_build(credential, credential_len, request, request_len, data_len, key_len, space_len), 0};
     if (b.row)
         return b;
+    size_t records = 36 + request_len;
     memcpy(space, credential, 36);
-    memcpy(space + 36, request, 28);
+    memcpy(space + 36, request, request_len);
     if (data_len)
-        memcpy(space + 64, data, data_len);
-    paper_digest(key, credential, request, data, request[3] ? data_len : 0, space + 64 + data_len);
-    b.length = 96 + data_len;
+        memcpy(space + records, data, data_len);
+    paper_digest(key, credential, request, data, request[3] ? data_len : 0, space + records + data_len);
+    b.length = frame_length(request, data_len);
     return b;
 }
 
@@ -29,7 +30,7 @@ struct sievelast_checked sievelast_check(const uint8_t *credential, size_t crede
     return c;
 }
 
-/* ---- the records, by what drafts and the paper's gate make of a frame's first 64 bytes */
+/* ---- the records, by what drafts and the paper's gate make of a frame's first bytes */
 uint64_t sievelast_credential_encode(struct sievelast_credential fields, uint8_t *space, size_t space_len)
 {
     struct draft f = {.who = fields};
@@ -50,10 +51,20 @@ uint64_t sievelast_request_encode(struct sievelast_request fields, uint8_t *spac
     return 0;
 }
 
+uint64_t sievelast_group_request_encode(struct sievelast_request fields, uint32_t member, uint8_t *space, size_t space_len)
+{
+    struct draft f = {.what = fields, .grouped = 1, .member = member};
+    if (space_len < 32)
+        return 29;
+    draft_records(&f);
+    memcpy(space, f.frame + 36, 32);
+    return 0;
+}
+
 struct sievelast_credential_decoded sievelast_credential_decode(const uint8_t *record, size_t record_len)
 {
     struct sievelast_credential_decoded d = {.row = 28};
-    uint8_t records[64] = {0};
+    uint8_t records[68] = {0};
     if (record_len != 36 || number(record, 2) != 0x4c43 || record[15] != 0)
         return d;
     memcpy(records, record, 36);
@@ -65,18 +76,31 @@ struct sievelast_credential_decoded sievelast_credential_decode(const uint8_t *r
     return d;
 }
 
+/* The fields of a request of either form, and its member, which is 0 where it has none. */
+static struct sievelast_group_request_decoded request_fields(const uint8_t *record, size_t record_len)
+{
+    uint8_t records[68] = {0};
+    memcpy(records + 36, record, record_len);
+    struct paper_call q = paper_call_of(records);
+    struct sievelast_request r = {q.time, q.count, q.a, q.b, q.n, (uint8_t)q.operation, (uint8_t)q.level};
+    struct sievelast_group_request_decoded d = {0, r, q.target};
+    return d;
+}
+
 struct sievelast_request_decoded sievelast_request_decode(const uint8_t *record, size_t record_len)
 {
     struct sievelast_request_decoded d = {.row = 28};
-    uint8_t records[64] = {0};
     if (record_len != 28 || number(record, 2) != 0x4c52)
         return d;
-    memcpy(records + 36, record, 28);
-    struct paper_call q = paper_call_of(records);
-    struct sievelast_request r = {q.time, q.count, q.a, q.b, q.n, (uint8_t)q.operation, (uint8_t)q.level};
     d.row = 0;
-    d.fields = r;
+    d.fields = request_fields(record, record_len).fields;
     return d;
+}
+
+struct sievelast_group_request_decoded sievelast_group_request_decode(const uint8_t *record, size_t record_len)
+{
+    struct sievelast_group_request_decoded d = {.row = 28};
+    return record_len != 32 || number(record, 2) != 0x4c47 ? d : request_fields(record, record_len);
 }
 
 /* ---- results */

@@ -1,4 +1,4 @@
-/* What document 01 says of format and gate, with changes 2, 3 and 5 of document 02, in plain C over the record of sievelast_store.h, and
+/* What document 01 says of format and gate, with changes 2, 3, 5 and 6 of document 02, in plain C over the record of sievelast_store.h, and
  * written from the papers: what each call must answer and leave behind, from any record, sound or not. */
 #ifndef TESTS_PAPER_DRIVE_H
 #define TESTS_PAPER_DRIVE_H
@@ -89,13 +89,15 @@ struct paper_call {
     const uint8_t *c, *r, *data; /* credential, request, data */
     uint64_t time, expiry, sum;  /* sum: A + B */
     uint32_t object, version, first, end, holder, count, a, b, n;
-    int partition, slot, rights, operation, level, memory;
+    uint32_t target; /* the object that is read, written or looked at: for a group the member, else the credential's */
+    int partition, slot, rights, operation, level, memory, grouped;
 };
 
+/* The frame has at least row 2's 96 bytes, which "for every form" have every field. */
 static inline struct paper_call paper_call_of(const uint8_t *frame)
 {
     const uint8_t *c = frame, *r = frame + SIEVELAST_CREDENTIAL_BYTES;
-    struct paper_call q = {.c = c, .r = r, .data = r + SIEVELAST_REQUEST_BYTES};
+    struct paper_call q = {.c = c, .r = r, .data = r + request_length(r), .grouped = group_request(r)};
     q.partition = c[2];
     q.slot = c[3];
     q.object = (uint32_t)number(c + 4, 4);
@@ -114,6 +116,7 @@ static inline struct paper_call paper_call_of(const uint8_t *frame)
     q.n = (uint32_t)number(r + 24, 4);
     q.sum = (uint64_t)q.a + q.b;
     q.memory = q.slot < 3 ? q.partition : 4;
+    q.target = q.grouped ? (uint32_t)number(r + SIEVELAST_REQUEST_BYTES, 4) : q.object;
     return q;
 }
 
@@ -131,7 +134,7 @@ static inline void frame_digest(struct sievelast_drive *d, const struct paper_ca
     paper_digest(key, q->c, q->r, q->data, q->level ? q->n : 0, out);
 }
 
-/* ---- rows 2 to 23 and 31, the mark being this call's */
+/* ---- rows 2 to 23 and 31 to 34, the mark being this call's */
 static inline uint64_t row_2_to_6(const uint8_t *frame, size_t frame_len)
 {
     if (frame_len < SIEVELAST_LEAST_FRAME_BYTES)
@@ -141,7 +144,7 @@ static inline uint64_t row_2_to_6(const uint8_t *frame, size_t frame_len)
         return 3;
     if (paper_row_4(c, r))
         return 4;
-    if (paper_row_5(r) || frame_len != SIEVELAST_LEAST_FRAME_BYTES + number(r + 24, 4))
+    if (paper_row_5(r) || frame_len != frame_length(r, number(r + 24, 4)))
         return 5;
     return paper_row_6(c, r) ? 6 : 0;
 }
@@ -155,7 +158,7 @@ static inline struct need need_of(struct sievelast_drive *d, const struct paper_
 }
 
 /* "A grant enters (slot, holder, T, count)." Change 2: "Each memory entry, and so row 12's nonce, has the credential's object too."
- * T is q->time; here are the other numbers. */
+ * Change 6: "The nonce's object is the group." T is q->time; here are the other numbers. */
 static inline void entry_of(const struct paper_call *q, uint32_t out[SIEVELAST_RECORD_ENTRY])
 {
     out[ENTRY_SLOT] = (uint32_t)q->slot;
@@ -196,18 +199,71 @@ static inline uint64_t row_7_to_13(struct sievelast_drive *d, const struct paper
     return n.mask & ~(uint32_t)q->rights ? 13 : 0; /* "every right in the mask being needed" */
 }
 
-static inline uint64_t row_14_to_17(const uint32_t *t, const struct paper_call *q)
+/* Change 6: "Version is the group object's". */
+static inline uint64_t row_14_and_15(const uint32_t *t, const struct paper_call *q)
 {
     uint32_t i = find_object(t, q->object);
     if (q->object && i == t[COUNT_AT])
         return 14;
-    if (q->operation <= 6 && q->version != (q->object ? t[VERSIONS_AT + i] : t[VERSION_AT]))
-        return 15;
+    return q->operation <= 6 && q->version != (q->object ? t[VERSIONS_AT + i] : t[VERSION_AT]) ? 15 : 0;
+}
+
+/* ---- groups. "A group object holds four-byte object numbers from 1, in strictly rising order, and no other byte." */
+static inline int paper_list(const uint8_t *bytes, size_t size)
+{
+    uint64_t last = 0; /* so that the first is from 1 */
+    for (size_t at = 0; at + 4 <= size; at += 4) {
+        if (number(bytes + at, 4) <= last)
+            return 0;
+        last = number(bytes + at, 4);
+    }
+    return size % 4 == 0;
+}
+
+static inline int listed(const uint8_t *bytes, size_t size, uint32_t member)
+{
+    for (size_t at = 0; at + 4 <= size; at += 4)
+        if (number(bytes + at, 4) == member)
+            return 1;
+    return 0;
+}
+
+/* "Turned away: 32, after row 15, when the group's bytes are no such list; 33, next, when the member is not in it; 34, next, when the member
+ * does not exist." `bytes` are the group's. */
+static inline uint64_t row_32_to_34(const uint32_t *t, const uint8_t *bytes, const struct paper_call *q)
+{
+    size_t size = t[SIZES_AT + find_object(t, q->object)];
+    if (!paper_list(bytes, size))
+        return 32;
+    if (!listed(bytes, size, q->target))
+        return 33;
+    return find_object(t, q->target) == t[COUNT_AT] ? 34 : 0;
+}
+
+/* "Range, size, result .. are the member's". */
+static inline uint64_t row_16_and_17(const uint32_t *t, const struct paper_call *q)
+{
     if (q->operation > 2)
         return 0;
     if (q->first > q->a || q->sum > q->end)
         return 16;
-    return q->sum > t[SIZES_AT + i] ? 17 : 0;
+    return q->sum > t[SIZES_AT + find_object(t, q->target)] ? 17 : 0;
+}
+
+/* An object's bytes in the medium. */
+static inline uint8_t *object_bytes(struct sievelast_drive *d, uint8_t *medium, int partition, uint32_t object)
+{
+    const uint32_t *t = table_of(d, partition);
+    return medium + (size_t)partition * quarter_of(d) + t[STARTS_AT + find_object(t, object)];
+}
+
+static inline uint64_t row_14_to_17(struct sievelast_drive *d, uint8_t *medium, const struct paper_call *q)
+{
+    const uint32_t *t = table_of(d, q->partition);
+    uint64_t row = row_14_and_15(t, q);
+    if (!row && q->grouped)
+        row = row_32_to_34(t, object_bytes(d, medium, q->partition, q->object), q);
+    return row ? row : row_16_and_17(t, q);
 }
 
 /* ---- where a create puts its area; all places count from the quarter's start */
@@ -303,11 +359,12 @@ static inline size_t reply_length(const struct paper_call *q)
     return SIEVELAST_REPLY_HEAD_BYTES + (size_t)paper_result(q->r) + (q->level == 2 ? SIEVELAST_DIGEST_BYTES : 0);
 }
 
-static inline uint64_t row_7_to_23(struct sievelast_drive *d, const struct paper_call *q, size_t reply_len)
+/* In the order in which they are judged: 7 to 15, 32 to 34, 16 to 21, 31, 22, 23. */
+static inline uint64_t row_7_to_34(struct sievelast_drive *d, uint8_t *medium, const struct paper_call *q, size_t reply_len)
 {
     uint64_t row = row_7_to_13(d, q);
     if (!row)
-        row = row_14_to_17(table_of(d, q->partition), q);
+        row = row_14_to_17(d, medium, q);
     if (!row)
         row = row_18_to_21(table_of(d, q->partition), quarter_of(d), q);
     if (!row)
@@ -320,8 +377,7 @@ static inline uint64_t row_7_to_23(struct sievelast_drive *d, const struct paper
 /* ---- a grant: each operation's part, its result put behind the reply's head */
 static inline void grant_bytes(struct sievelast_drive *d, uint8_t *medium, const struct paper_call *q, uint8_t *result)
 {
-    uint32_t *t = table_of(d, q->partition), i = find_object(t, q->object);
-    uint8_t *at = medium + (size_t)q->partition * quarter_of(d) + t[STARTS_AT + i] + q->a;
+    uint8_t *at = object_bytes(d, medium, q->partition, q->target) + q->a;
     if (q->b == 0)
         return;
     if (q->operation == 1)
@@ -332,9 +388,9 @@ static inline void grant_bytes(struct sievelast_drive *d, uint8_t *medium, const
 
 static inline void grant_look(struct sievelast_drive *d, const struct paper_call *q, uint8_t *result)
 {
-    uint32_t *t = table_of(d, q->partition), i = find_object(t, q->object);
-    put_number(result, 4, q->object ? t[SIZES_AT + i] : quarter_of(d));
-    put_number(result + 4, 4, q->object ? t[VERSIONS_AT + i] : t[VERSION_AT]);
+    uint32_t *t = table_of(d, q->partition), i = find_object(t, q->target);
+    put_number(result, 4, q->target ? t[SIZES_AT + i] : quarter_of(d));
+    put_number(result + 4, 4, q->target ? t[VERSIONS_AT + i] : t[VERSION_AT]);
 }
 
 static inline void grant_raise(struct sievelast_drive *d, const struct paper_call *q, uint8_t *result)
@@ -418,7 +474,7 @@ static inline struct sievelast_answered paper_gate(struct sievelast_drive *d, ui
     if (a.row)
         return a;
     struct paper_call q = paper_call_of(frame);
-    a.row = row_7_to_23(d, &q, reply_len);
+    a.row = row_7_to_34(d, medium, &q, reply_len);
     if (!a.row)
         a.length = paper_grant(d, medium, &q, reply);
     return a;

@@ -48,11 +48,13 @@ static void constants(void)
     EXPECT(!strcmp(SIEVELAST_VERSION, version));
 
     EXPECT(SIEVELAST_CREDENTIAL_BYTES == 36 && SIEVELAST_REQUEST_BYTES == 28);
+    EXPECT(SIEVELAST_GROUP_REQUEST_BYTES == 28 + 4 && SIEVELAST_MEMBER_BYTES == 4);
     EXPECT(SIEVELAST_DIGEST_BYTES == 32 && SIEVELAST_KEY_BYTES == 32 && SIEVELAST_SEED_BYTES == 16);
     EXPECT(SIEVELAST_TABLE_OPERATIONS == 7 && SIEVELAST_TABLE_BYTES == 7 * (2 + 1));
     EXPECT(SIEVELAST_REPLY_HEAD_BYTES == 2 + 1 + 1 + 4);
     EXPECT(SIEVELAST_LOOK_BYTES == 4 + 4 && SIEVELAST_NEW_VERSION_BYTES == 4);
-    EXPECT(SIEVELAST_LEAST_FRAME_BYTES == 36 + 28 + 32 && SIEVELAST_MOST_FRAME_BYTES == 36 + 28 + 1048576 + 32);
+    EXPECT(SIEVELAST_LEAST_FRAME_BYTES == 36 + 28 + 32 && SIEVELAST_GROUP_FRAME_BYTES == 36 + 32 + 32);
+    EXPECT(SIEVELAST_MOST_FRAME_BYTES == 36 + 32 + 1048576 + 32);
     EXPECT(SIEVELAST_MOST_DATA_BYTES == 1048576 && SIEVELAST_MOST_MEDIUM_BYTES == 16777216);
     EXPECT(SIEVELAST_MOST_RESULT_BYTES == 4194304 && SIEVELAST_MOST_RESULT_BYTES == SIEVELAST_MOST_MEDIUM_BYTES / 4);
     EXPECT(SIEVELAST_MOST_REPLY_BYTES == 8 + 4194304 + 32 && SIEVELAST_MOST_HMAC_BYTES == 16777216);
@@ -68,6 +70,7 @@ static void constants(void)
         EXPECT(SIEVELAST_RIGHT(operation) == 1 << (operation - 1));
     EXPECT(SIEVELAST_RIGHT(SIEVELAST_LOAD_TABLE) == 0x40);
     EXPECT(SIEVELAST_EVERY_RIGHT == 0x7f && sizeof SIEVELAST_EVERY_RIGHT == 2 && sizeof SIEVELAST_RIGHT(1) == 2);
+    EXPECT(SIEVELAST_GROUP_RIGHT == 1 << 7 && sizeof SIEVELAST_GROUP_RIGHT == 2);
 
     EXPECT(SIEVELAST_RECORD_KEYS == (1 + 1 + 4 * 3) * (32 + 1));
     EXPECT(SIEVELAST_RECORD_TABLES == 4 * (3 + 4 * 16 + 7 + 7) && SIEVELAST_RECORD_PLACES == 5 * 64);
@@ -87,6 +90,8 @@ static void layouts(void)
     EXPECT(offsetof(struct sievelast_request, data_len) == 20 && offsetof(struct sievelast_request, operation) == 24);
     EXPECT(offsetof(struct sievelast_request, level) == 25);
     EXPECT(sizeof(struct sievelast_credential_decoded) == 48 && sizeof(struct sievelast_request_decoded) == 40);
+    EXPECT(sizeof(struct sievelast_group_request_decoded) == 48 && offsetof(struct sievelast_group_request_decoded, fields) == 8);
+    EXPECT(offsetof(struct sievelast_group_request_decoded, member) == 40);
     EXPECT(sizeof(struct sievelast_looked) == 16 && sizeof(struct sievelast_versioned) == 16);
     EXPECT(sizeof(struct sievelast_built) == 16 && sizeof(struct sievelast_checked) == 24);
     EXPECT(sizeof(struct sievelast_answered) == 16 && sizeof(struct sievelast_issued) == 40);
@@ -113,7 +118,7 @@ static const struct {
     {SIEVELAST_ROW_UNTIMELY, "5,000"},
     {SIEVELAST_ROW_REPLAYED, "nonce"},
     {SIEVELAST_ROW_RIGHT_MISSING, "every right"},
-    {SIEVELAST_ROW_NO_OBJECT, "does not exist"},
+    {SIEVELAST_ROW_NO_OBJECT, "the object does not exist"},
     {SIEVELAST_ROW_VERSION, "not the present one"},
     {SIEVELAST_ROW_RANGE, "range"},
     {SIEVELAST_ROW_PAST_SIZE, "past the object"},
@@ -131,12 +136,15 @@ static const struct {
     {SIEVELAST_ROW_SPACE, "space lent"},
     {SIEVELAST_ROW_REPLY, "reply is not the one"},
     {SIEVELAST_ROW_TABLE, "operation table"},
+    {SIEVELAST_ROW_GROUP_LIST, "rise strictly"},
+    {SIEVELAST_ROW_NOT_MEMBER, "not in the group's list"},
+    {SIEVELAST_ROW_NO_MEMBER, "member does not exist"},
 };
 
 static void row_texts(void)
 {
     const char *none = sievelast_row_text(SIEVELAST_LAST_ROW + 1);
-    EXPECT(SIEVELAST_LAST_ROW == 31 && sizeof rows / sizeof *rows == SIEVELAST_LAST_ROW + 1);
+    EXPECT(SIEVELAST_LAST_ROW == 34 && sizeof rows / sizeof *rows == SIEVELAST_LAST_ROW + 1);
     EXPECT(!strcmp(sievelast_row_text(SIEVELAST_GRANTED), rows[0].words) && !strcmp(none, "no such row"));
     for (int i = 0; i <= SIEVELAST_LAST_ROW; i++) {
         const char *text = sievelast_row_text((uint64_t)i);
@@ -204,6 +212,31 @@ static const struct request_case {
      "4c52 08 01 00000000000003e8 0000002a 00000000 00000000 00000015"},
 };
 
+/* ---- a group's request: 32 bytes. The columns are the request's, with another mark, and the member. */
+static const struct group_case {
+    struct sievelast_request fields;
+    uint32_t member;
+    const char *bytes;
+} group_cases[] = {
+    {{.operation = 0}, 0, "4c47 00 00 0000000000000000 00000000 00000000 00000000 00000000 00000000"},
+    {{.operation = 0xff}, 0, "4c47 ff 00 0000000000000000 00000000 00000000 00000000 00000000 00000000"},
+    {{.level = 0xff}, 0, "4c47 00 ff 0000000000000000 00000000 00000000 00000000 00000000 00000000"},
+    {{.time = UINT64_MAX}, 0, "4c47 00 00 ffffffffffffffff 00000000 00000000 00000000 00000000 00000000"},
+    {{.count = UINT32_MAX}, 0, "4c47 00 00 0000000000000000 ffffffff 00000000 00000000 00000000 00000000"},
+    {{.a = UINT32_MAX}, 0, "4c47 00 00 0000000000000000 00000000 ffffffff 00000000 00000000 00000000"},
+    {{.b = UINT32_MAX}, 0, "4c47 00 00 0000000000000000 00000000 00000000 ffffffff 00000000 00000000"},
+    {{.data_len = UINT32_MAX}, 0, "4c47 00 00 0000000000000000 00000000 00000000 00000000 ffffffff 00000000"},
+    {{.operation = 0}, UINT32_MAX, "4c47 00 00 0000000000000000 00000000 00000000 00000000 00000000 ffffffff"},
+    {{.operation = 0xff, .level = 0xff, .time = UINT64_MAX, .count = UINT32_MAX, .a = UINT32_MAX, .b = UINT32_MAX,
+      .data_len = UINT32_MAX}, UINT32_MAX,
+     "4c47 ff ff ffffffffffffffff ffffffff ffffffff ffffffff ffffffff ffffffff"},
+    {{.operation = 2, .level = 1, .time = 0x0102030405060708, .count = 0x090a0b0c, .a = 0x0d0e0f10, .b = 0x11121314,
+      .data_len = 0x15161718}, 0x191a1b1c,
+     "4c47 02 01 0102030405060708 090a0b0c 0d0e0f10 11121314 15161718 191a1b1c"},
+    {{.operation = 1, .level = 2, .time = 1000, .count = 41, .a = 0, .b = 64, .data_len = 0}, 4711,
+     "4c47 01 02 00000000000003e8 00000029 00000000 00000040 00000000 00001267"},
+};
+
 static int same_credential(struct sievelast_credential x, struct sievelast_credential y)
 {
     return x.expiry == y.expiry && x.object == y.object && x.version == y.version && x.first == y.first && x.end == y.end &&
@@ -216,7 +249,7 @@ static int same_request(struct sievelast_request x, struct sievelast_request y)
            x.operation == y.operation && x.level == y.level;
 }
 
-/* ---- both records by one set of tests */
+/* ---- all three records by one set of tests */
 struct record {
     const char *name;
     size_t length;
@@ -266,11 +299,32 @@ static int request_refused(const uint8_t *record, size_t record_len)
     return d.row == SIEVELAST_ROW_RECORDS && same_request(d.fields, request_cases[0].fields);
 }
 
+static const char *group_bytes(size_t i) { return group_cases[i].bytes; }
+
+static uint64_t group_encode(size_t i, uint8_t *space, size_t space_len)
+{
+    return sievelast_group_request_encode(group_cases[i].fields, group_cases[i].member, space, space_len);
+}
+
+static int group_decoded(size_t i, const uint8_t *record, size_t record_len)
+{
+    struct sievelast_group_request_decoded d = sievelast_group_request_decode(record, record_len);
+    return d.row == SIEVELAST_GRANTED && same_request(d.fields, group_cases[i].fields) && d.member == group_cases[i].member;
+}
+
+static int group_refused(const uint8_t *record, size_t record_len)
+{
+    struct sievelast_group_request_decoded d = sievelast_group_request_decode(record, record_len);
+    return d.row == SIEVELAST_ROW_RECORDS && same_request(d.fields, group_cases[0].fields) && d.member == 0;
+}
+
 static const struct record records[] = {
     {"credential", SIEVELAST_CREDENTIAL_BYTES, 15, sizeof credential_cases / sizeof *credential_cases, credential_bytes,
      credential_encode, credential_decoded, credential_refused},
     {"request", SIEVELAST_REQUEST_BYTES, 0, sizeof request_cases / sizeof *request_cases, request_bytes, request_encode,
      request_decoded, request_refused},
+    {"group's request", SIEVELAST_GROUP_REQUEST_BYTES, 0, sizeof group_cases / sizeof *group_cases, group_bytes, group_encode,
+     group_decoded, group_refused},
 };
 
 /* Case i at an address, with some bytes of space behind it: written as by hand, nothing beside it touched, and read back. */
@@ -331,7 +385,7 @@ static void other_marks(const struct record *r, size_t i)
     }
 }
 
-static void both_records(void)
+static void every_record(void)
 {
     for (const struct record *r = records; r < records + sizeof records / sizeof *records; r++) {
         for (size_t i = 0; i < r->cases; i++) {
@@ -342,6 +396,24 @@ static void both_records(void)
         }
         other_marks(r, 0);
         other_marks(r, r->cases - 1);
+    }
+}
+
+/* A request and a group's request of the same fields: alike but for the mark and the member, and each decoder refuses the other's. */
+static void two_forms(void)
+{
+    uint8_t plain[ROOM], group[ROOM];
+    for (size_t i = 0; i < sizeof request_cases / sizeof *request_cases; i++) {
+        memset(plain, 0, sizeof plain), memset(group, 0, sizeof group);
+        EXPECT(sievelast_request_encode(request_cases[i].fields, plain, sizeof plain) == SIEVELAST_GRANTED);
+        EXPECT(sievelast_group_request_encode(request_cases[i].fields, 0x01020304, group, sizeof group) == SIEVELAST_GRANTED);
+        EXPECT(plain[0] == group[0] && plain[1] == 0x52 && group[1] == 0x47 && !memcmp(plain + 2, group + 2, 26));
+        EXPECT(!memcmp(group + 28, "\1\2\3\4", 4) && all(plain + 28, ROOM - 28, 0));
+        for (size_t length = 27; length <= 33; length++) {
+            EXPECT(length == 28 ? request_decoded(i, plain, length) : request_refused(plain, length));
+            EXPECT(request_refused(group, length) && group_refused(plain, length));
+            EXPECT((sievelast_group_request_decode(group, length).row == SIEVELAST_GRANTED) == (length == 32));
+        }
     }
 }
 
@@ -405,13 +477,16 @@ static void read_back(void)
         EXPECT(same_credential(sievelast_credential_decode(space, SIEVELAST_CREDENTIAL_BYTES).fields, c));
         EXPECT(sievelast_request_encode(r, space, sizeof space) == SIEVELAST_GRANTED);
         EXPECT(same_request(sievelast_request_decode(space, SIEVELAST_REQUEST_BYTES).fields, r));
+        EXPECT(sievelast_group_request_encode(r, c.object, space, sizeof space) == SIEVELAST_GRANTED);
+        struct sievelast_group_request_decoded g = sievelast_group_request_decode(space, SIEVELAST_GROUP_REQUEST_BYTES);
+        EXPECT(g.row == SIEVELAST_GRANTED && same_request(g.fields, r) && g.member == c.object);
     }
 }
 
 /* Would rows 3 and 4 let the credential by? */
 static int within_values(struct sievelast_credential c)
 {
-    return c.partition <= 3 && c.slot <= 4 && c.rights <= 0x7f && c.least <= 2 && (c.slot <= 2 || c.partition == 0);
+    return c.partition <= 3 && c.slot <= 4 && c.rights <= 0xff && c.least <= 2 && (c.slot <= 2 || c.partition == 0);
 }
 
 /* The issuer writes the encoder's bytes and gives the HMAC of them; fields outside their values it refuses. */
@@ -421,7 +496,7 @@ static void issued(void)
     int granted = 0, refused = 0;
     for (int i = 0; i < 4000; i++) {
         struct sievelast_credential c = random_credential();
-        c.partition %= 5, c.slot %= 6, c.least %= 4, c.rights &= 0xff;
+        c.partition %= 5, c.slot %= 6, c.least %= 4, c.rights &= 0x1ff;
         memset(key, i, sizeof key);
         memset(encoded, FILL, sizeof encoded);
         memset(written_bytes, FILL, sizeof written_bytes);
@@ -556,17 +631,81 @@ static void table_read(struct session *s, uint32_t version)
     EXPECT(session_load_table(s, table) == SIEVELAST_ROW_TABLE && s->built.row == SIEVELAST_GRANTED);
 }
 
+/* ---- the same through a group: the members are NUMBER, MISSING, which is not there, and the group itself */
+enum { GROUP = 9, MISSING = 8, MEMBERS = 3 };
+
+/* The group, created and its list written; its version. */
+static uint32_t group_made(struct session *s)
+{
+    const uint8_t *data = s->data;
+    uint8_t list[MEMBERS * SIEVELAST_MEMBER_BYTES];
+    session_credential(s, SIEVELAST_SLOT_BLACK, 0, SESSION_FIRST_VERSION);
+    session_request(s, SIEVELAST_CREATE, GROUP, sizeof list);
+    EXPECT_ROW(s, SIEVELAST_GRANTED);
+    uint32_t version = session_version(s);
+    session_group(s, SIEVELAST_SLOT_BLACK, GROUP, version, NUMBER);
+    EXPECT_READ(s, SIEVELAST_ROW_GROUP_LIST);
+    unhex("00000007 00000008 00000009", list);
+    s->data = list;
+    session_credential(s, SIEVELAST_SLOT_BLACK, GROUP, version);
+    session_request(s, SIEVELAST_WRITE, 0, sizeof list);
+    EXPECT_ROW(s, SIEVELAST_GRANTED);
+    s->data = data;
+    return version;
+}
+
+/* A look at NUMBER through the group, which has a version of its own. */
+static void group_looked(struct session *s, uint32_t version)
+{
+    session_request(s, SIEVELAST_LOOK, 0, 0);
+    EXPECT_ROW(s, SIEVELAST_GRANTED);
+    struct sievelast_looked l = sievelast_look_decode(s->reply + s->checked.start, s->checked.length);
+    EXPECT(l.row == SIEVELAST_GRANTED && l.size == SIZE && l.version == version && version != s->credential.version);
+}
+
+static void group_read(struct session *s, uint32_t version)
+{
+    uint32_t group_version = group_made(s);
+    session_group(s, SIEVELAST_SLOT_GOLD, GROUP, group_version, NUMBER);
+    for (uint8_t level = SIEVELAST_LEVEL_RECORDS; level <= SIEVELAST_LEVEL_REPLY; level++) {
+        s->request.level = level;
+        EXPECT_READ(s, SIEVELAST_GRANTED);
+        EXPECT(s->built.length == SIEVELAST_GROUP_FRAME_BYTES && !memcmp(s->reply + s->checked.start, s->data, LENGTH));
+        session_request(s, SIEVELAST_WRITE, FROM, LENGTH);
+        EXPECT_ROW(s, SIEVELAST_GRANTED);
+        EXPECT(s->built.length == SIEVELAST_GROUP_FRAME_BYTES + LENGTH);
+        group_looked(s, version);
+    }
+    EXPECT_ROW(s, SIEVELAST_ROW_REPLAYED);
+    s->member = GROUP, EXPECT_ROW(s, SIEVELAST_ROW_REPLAYED); /* under one time and count, of whichever member */
+    EXPECT_READ(s, SIEVELAST_ROW_PAST_SIZE);
+    s->member = MISSING, EXPECT_READ(s, SIEVELAST_ROW_NO_MEMBER);
+    s->member = GROUP + 1, EXPECT_READ(s, SIEVELAST_ROW_NOT_MEMBER);
+    s->member = NUMBER, EXPECT_READ(s, SIEVELAST_GRANTED);
+    s->credential.end = FROM + LENGTH - 1, EXPECT_READ(s, SIEVELAST_ROW_RANGE);
+    s->credential.version = version, EXPECT_READ(s, SIEVELAST_ROW_VERSION);
+    session_group(s, SIEVELAST_SLOT_BLACK, GROUP, group_version, NUMBER);
+    session_request(s, SIEVELAST_RAISE, 0, 0); /* what no group credential does is not even built */
+    session_ask(s);
+    EXPECT(s->built.row == SIEVELAST_ROW_RECORDS && s->answered.row == SIEVELAST_ROW_FRAME_SHORT);
+    session_credential(s, SIEVELAST_SLOT_BLACK, GROUP, group_version);
+    session_request(s, SIEVELAST_RAISE, 0, 0);
+    EXPECT_ROW(s, SIEVELAST_GRANTED);
+    session_group(s, SIEVELAST_SLOT_BLACK, GROUP, group_version, NUMBER), EXPECT_READ(s, SIEVELAST_ROW_VERSION);
+}
+
 /* Every record that went to the drive, decoded, gives the fields that the session asked with. */
 static void take_and_decode(struct session *s, const char *call, session_step *step)
 {
+    const uint8_t *request = s->frame + SIEVELAST_CREDENTIAL_BYTES;
     session_take(s, call, step);
-    if (step != session_gate)
+    if (step != session_gate || s->built.row != SIEVELAST_GRANTED)
         return;
-    EXPECT(same_credential(sievelast_credential_decode(s->frame, SIEVELAST_CREDENTIAL_BYTES).fields, s->credential) ||
-           s->built.row != SIEVELAST_GRANTED);
-    EXPECT(same_request(sievelast_request_decode(s->frame + SIEVELAST_CREDENTIAL_BYTES, SIEVELAST_REQUEST_BYTES).fields,
-                        s->request) ||
-           s->built.row != SIEVELAST_GRANTED);
+    EXPECT(same_credential(sievelast_credential_decode(s->frame, SIEVELAST_CREDENTIAL_BYTES).fields, s->credential));
+    struct sievelast_group_request_decoded g = sievelast_group_request_decode(request, SIEVELAST_GROUP_REQUEST_BYTES);
+    struct sievelast_request_decoded r = sievelast_request_decode(request, SIEVELAST_REQUEST_BYTES);
+    EXPECT(g.row == (s->grouped ? SIEVELAST_GRANTED : SIEVELAST_ROW_RECORDS) && r.row == SIEVELAST_ROW_RECORDS - g.row);
+    EXPECT(same_request(s->grouped ? g.fields : r.fields, s->request) && (!s->grouped || g.member == s->member));
 }
 
 static void drive_reads(void)
@@ -581,6 +720,8 @@ static void drive_reads(void)
     uint32_t version = operations_read(s);
     request_read(s, version);
     credential_read(s, version);
+    s->request.level = SIEVELAST_LEVEL_REPLY;
+    group_read(s, version);
     table_read(s, version);
     session_credential(s, SIEVELAST_SLOT_BLACK, NUMBER, version);
     session_request(s, SIEVELAST_DELETE, 0, 0);
@@ -594,7 +735,8 @@ int main(void)
     constants();
     layouts();
     row_texts();
-    both_records();
+    every_record();
+    two_forms();
     results();
     read_back();
     issued();

@@ -25,10 +25,12 @@ struct session {
 
     struct sievelast_credential credential;
     struct sievelast_request request;
+    int grouped;         /* the request is a group's, .. */
+    uint32_t member;     /* .. with this member */
     const uint8_t *data; /* at least as long as the request says */
 
     uint8_t credential_bytes[SIEVELAST_CREDENTIAL_BYTES];
-    uint8_t request_bytes[SIEVELAST_REQUEST_BYTES];
+    uint8_t request_bytes[SIEVELAST_GROUP_REQUEST_BYTES];
     uint8_t *frame;
     uint8_t *reply;
 
@@ -92,14 +94,24 @@ static inline void session_issue(struct session *s)
                                 sizeof s->credential_bytes);
 }
 
+static inline size_t session_request_len(const struct session *s)
+{
+    return s->grouped ? SIEVELAST_GROUP_REQUEST_BYTES : SIEVELAST_REQUEST_BYTES;
+}
+
 static inline void session_encode(struct session *s)
 {
-    s->encoded = sievelast_request_encode(s->request, s->request_bytes, sizeof s->request_bytes);
+    s->encoded = sievelast_request_encode(s->request, s->request_bytes, session_request_len(s));
+}
+
+static inline void session_encode_group(struct session *s)
+{
+    s->encoded = sievelast_group_request_encode(s->request, s->member, s->request_bytes, session_request_len(s));
 }
 
 static inline void session_build(struct session *s)
 {
-    s->built = sievelast_build(s->credential_bytes, sizeof s->credential_bytes, s->request_bytes, sizeof s->request_bytes, s->data,
+    s->built = sievelast_build(s->credential_bytes, sizeof s->credential_bytes, s->request_bytes, session_request_len(s), s->data,
                                s->request.data_len, s->issued.key, sizeof s->issued.key, s->frame, SIEVELAST_MOST_FRAME_BYTES);
 }
 
@@ -111,7 +123,7 @@ static inline void session_gate(struct session *s)
 
 static inline void session_check(struct session *s)
 {
-    s->checked = sievelast_check(s->credential_bytes, sizeof s->credential_bytes, s->request_bytes, sizeof s->request_bytes,
+    s->checked = sievelast_check(s->credential_bytes, sizeof s->credential_bytes, s->request_bytes, session_request_len(s),
                                  s->issued.key, sizeof s->issued.key, s->reply, s->answered.length);
 }
 
@@ -127,7 +139,10 @@ static inline void session_new_key(struct session *s)
 static inline uint64_t session_ask(struct session *s)
 {
     s->take(s, "sievelast_issue", session_issue);
-    s->take(s, "sievelast_request_encode", session_encode);
+    if (s->grouped)
+        s->take(s, "sievelast_group_request_encode", session_encode_group);
+    else
+        s->take(s, "sievelast_request_encode", session_encode);
     s->take(s, "sievelast_build", session_build);
     s->take(s, "sievelast_gate", session_gate);
     s->take(s, "sievelast_check", session_check);
@@ -155,6 +170,16 @@ static inline void session_credential(struct session *s, enum sievelast_slot slo
     s->credential.rights = SIEVELAST_EVERY_RIGHT;
     s->credential.end = UINT32_MAX;
     s->credential.expiry = UINT64_MAX;
+    s->grouped = 0;
+}
+
+/* The same for a group, whose requests are for a member of it. */
+static inline void session_group(struct session *s, enum sievelast_slot slot, uint32_t group, uint32_t version, uint32_t member)
+{
+    session_credential(s, slot, group, version);
+    s->credential.rights |= SIEVELAST_GROUP_RIGHT;
+    s->grouped = 1;
+    s->member = member;
 }
 
 /* The length of the data that an operation takes. */

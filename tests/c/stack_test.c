@@ -59,10 +59,14 @@ static void other_records(struct session *s)
     uint8_t space[SIEVELAST_CREDENTIAL_BYTES];
     struct sievelast_credential_decoded c;
     struct sievelast_request_decoded r;
+    struct sievelast_group_request_decoded g;
     EXPECT(sievelast_credential_encode(s->credential, space, sizeof space) == SIEVELAST_GRANTED);
     c = sievelast_credential_decode(space, sizeof space);
-    r = sievelast_request_decode(s->request_bytes, sizeof s->request_bytes);
+    r = sievelast_request_decode(s->request_bytes, SIEVELAST_REQUEST_BYTES);
     EXPECT(c.row == SIEVELAST_GRANTED && r.row == SIEVELAST_GRANTED);
+    EXPECT(sievelast_group_request_encode(s->request, 1, space, SIEVELAST_GROUP_REQUEST_BYTES) == SIEVELAST_GRANTED);
+    g = sievelast_group_request_decode(space, SIEVELAST_GROUP_REQUEST_BYTES);
+    EXPECT(g.row == SIEVELAST_GRANTED && g.member == 1);
     EXPECT(sievelast_look_decode(space, SIEVELAST_LOOK_BYTES).row == SIEVELAST_GRANTED);
     EXPECT(sievelast_version_decode(space, SIEVELAST_NEW_VERSION_BYTES).row == SIEVELAST_GRANTED);
 }
@@ -99,6 +103,38 @@ static void operations(struct session *s, enum sievelast_level level)
     EXPECT_ROW(s, SIEVELAST_GRANTED);
     s->credential.version = session_version(s);
     session_request(s, SIEVELAST_DELETE, 0, 0);
+    EXPECT_ROW(s, SIEVELAST_GRANTED);
+}
+
+/* A group as large as a quarter can have it beside a log of a step's bytes: its list is the longest there is but for these. Read, write, look
+ * and the refusals through it. */
+static void groups(struct session *s, enum sievelast_level level)
+{
+    const uint32_t log = 1, group = 2, size = SIEVELAST_EXTENT_STEP, list_size = SIEVELAST_MOST_RESULT_BYTES - SIEVELAST_EXTENT_STEP;
+    s->request.level = (uint8_t)level;
+    session_credential(s, SIEVELAST_SLOT_BLACK, 0, SESSION_FIRST_VERSION);
+    session_request(s, SIEVELAST_CREATE, log, size);
+    EXPECT_ROW(s, SIEVELAST_GRANTED);
+    uint32_t log_version = session_version(s);
+    session_request(s, SIEVELAST_CREATE, group, list_size);
+    EXPECT_ROW(s, SIEVELAST_GRANTED);
+    uint32_t version = session_version(s);
+    session_group(s, SIEVELAST_SLOT_BLACK, group, version, log);
+    session_request(s, SIEVELAST_READ, 0, size);
+    EXPECT_ROW(s, SIEVELAST_ROW_GROUP_LIST);
+    for (uint32_t i = 0, at = size; at < SIEVELAST_MOST_RESULT_BYTES; i++, at += SIEVELAST_MEMBER_BYTES)
+        for (int byte = 0; byte < SIEVELAST_MEMBER_BYTES; byte++) /* partition 0 is the medium's start */
+            s->medium[at + (uint32_t)byte] = (uint8_t)((i + 1) >> (24 - 8 * byte));
+    for (int operation = SIEVELAST_READ; operation <= SIEVELAST_LOOK; operation++) {
+        session_request(s, (enum sievelast_operation)operation, 0, operation == SIEVELAST_LOOK ? 0 : size);
+        EXPECT_ROW(s, SIEVELAST_GRANTED);
+    }
+    session_request(s, SIEVELAST_LOOK, 0, 0);
+    s->member = list_size / SIEVELAST_MEMBER_BYTES, EXPECT_ROW(s, SIEVELAST_ROW_NO_MEMBER);
+    s->member++, EXPECT_ROW(s, SIEVELAST_ROW_NOT_MEMBER);
+    session_credential(s, SIEVELAST_SLOT_BLACK, group, version), session_request(s, SIEVELAST_DELETE, 0, 0);
+    EXPECT_ROW(s, SIEVELAST_GRANTED);
+    session_credential(s, SIEVELAST_SLOT_BLACK, log, log_version), session_request(s, SIEVELAST_DELETE, 0, 0);
     EXPECT_ROW(s, SIEVELAST_GRANTED);
 }
 
@@ -159,6 +195,9 @@ int main(void)
     operations(s, SIEVELAST_LEVEL_RECORDS);
     operations(s, SIEVELAST_LEVEL_DATA);
     operations(s, SIEVELAST_LEVEL_REPLY);
+    groups(s, SIEVELAST_LEVEL_RECORDS);
+    groups(s, SIEVELAST_LEVEL_DATA);
+    groups(s, SIEVELAST_LEVEL_REPLY);
     tables(s, SIEVELAST_LEVEL_DATA);
     tables(s, SIEVELAST_LEVEL_REPLY);
     full_tables(s);

@@ -72,8 +72,9 @@ play() {
     shift
     ./clients "$@" >printed 2>errors || fail "$play_what: $(cat printed errors)"
 }
+house=mill
 serve() {
-    ./"${1:-store}" serve -t $timeout mill/drive mill/socket 2>>said &
+    ./"${1:-store}" serve -t $timeout $house/drive $house/socket 2>>said &
     server=$!
 }
 # ended STATUS: the server has ended, or ends now, with this status
@@ -90,9 +91,14 @@ stop() {
 m() {
     m_command=$1
     shift
-    ./manager "$m_command" mill "$@"
+    ./manager "$m_command" $house "$@"
 }
-shape() { ./solver shape mill/socket "$1.credential" "$1.key"; }
+# shape NAME [MEMBER]: the shape by the credential of that name
+shape() {
+    shape_name=$1
+    shift
+    ./solver shape $house/socket "$shape_name.credential" "$shape_name.key" "$@"
+}
 # a time for a frame that is put twice: as late as the window of 5000 lets it be, but a second, so that a slow machine is in time too
 milliseconds() { echo $(($(date +%s%3N) + 4000)); }
 # put_bytes FILE OFFSET BYTES: other bytes there
@@ -290,7 +296,7 @@ broken_off() {
     : >said
     sleep $pause
     serve
-    row 2 "an empty frame after $broken_what" ./store send mill/socket </dev/null
+    row 2 "an empty frame after $broken_what" ./store send $house/socket </dev/null
     is "calls done again after $broken_what" 1 "$(grep -c 'done again' said)"
 }
 head -c $mebibyte /dev/urandom >large
@@ -360,3 +366,224 @@ granted 'read with -s' shape next
 same 'the shape with -s' log printed
 stop
 say 'the same with every step on the disk'
+
+# ---- one credential for a stack of logs
+# found NAME: a house of its own, so that no replay memory fills; the drive's file is as version 3.0.0 left it
+found() {
+    house=$1
+    granted 'another directory' ./manager new "$house"
+    granted 'format in it' ./store format "$house/drive" 8388608 "$house/master" "$house/drive-key"
+    put_bytes "$house/drive" 16 "$major.0.0\0"
+    serve
+    granted keys m keys
+}
+# number FILE OFFSET: eight bytes there as a number, the lowest first
+number() { od -An -t u8 -j "$2" -N 8 "$1" | tr -d ' '; }
+# says WHAT LINE..: what the command printed whose output was kept
+says() {
+    says_what=$1
+    shift
+    printf '%s\n' "$@" >expected
+    same "what $says_what says" expected kept
+}
+found stack
+granted 'create a log' m create 4711 21
+granted 'create another' m create 4712 26
+granted 'write it' m write 4711 <log
+echo 'log 4712, 298 mm top, bent' >log-4712
+head -c 26 log-4712 >bent
+granted 'write the other' m write 4712 <bent
+granted 'a group of both, named in any order' m group 9000 4712 4711
+cat printed >kept
+granted 'issue for the group' m issue 9000 7 read 10 stack.credential stack.key
+cat printed >>kept
+granted 'read the first log' shape stack 4711
+same 'the first log of the stack' log printed
+granted 'read the second log, which is longer' shape stack 4712
+same 'the second log of the stack' bent printed
+says 'group and issue' 'object 9000: 8 bytes, version 4' 'group 9000: logs 4711 4712' \
+    'holder 7 may read the logs of group 9000, version 4, for 10 minutes'
+row 33 'a log that is not of the stack' shape stack 4713
+row 33 'log 0' shape stack 0
+row 28 "a group's credential without a log's number" shape stack
+granted 'issue a log' m issue 4711 7 read 10 own.credential own.key
+row 28 "a log's own credential with a number" shape own 4711
+say 'a stack of two logs, on a file of version 3.0.0: each read by one credential, as long as it is; another number is row 33'
+
+time=$(milliseconds)
+./solver frame stack.credential stack.key "$time" 1 21 4711 >frame
+is 'bytes of the frame' 100 $(($(wc -c <frame)))
+granted 'the frame' ./store send stack/socket <frame
+./solver check stack.credential stack.key "$time" 1 21 4711 <printed >checked
+same 'the shape that its reply shows' log checked
+cp printed reply
+row 30 'the reply for another log' ./solver check stack.credential stack.key "$time" 1 21 4712 <reply
+row 12 'the frame again' ./store send stack/socket <frame
+./solver frame stack.credential stack.key "$time" 1 21 4712 >frame
+row 12 'the other log under the same time and count' ./store send stack/socket <frame
+head -c 99 frame >short-frame
+row 5 'a frame of 99 bytes' ./store send stack/socket <short-frame
+say 'frame and reply in two halves; the other log under the same time and count: row 12'
+
+granted 'issue for writes' m issue 9000 8 write 10 head.credential head.key
+echo 'log 4712, 305 mm top, 4.9 m' | head -c 26 >bent
+granted 'a write through the group' ./clients member stack/socket head.credential head.key 4712 <bent
+cp printed frame
+row 12 'its frame again' ./store send stack/socket <frame
+granted 'issue the log' m issue 4712 7 read 10 own.credential own.key
+granted 'read it by its own credential' shape own
+same 'what was written through the group' bent printed
+row 13 'a write by the credential for reads' ./clients member stack/socket stack.credential stack.key 4712 <bent
+row 17 'a write past the log' ./clients member stack/socket head.credential head.key 4712 <large
+say "a shape written through the group, read by the log's own credential"
+
+granted 'raise a log of the stack' m raise 4712
+cp printed kept
+row 15 "the group's credential, for the log" shape stack 4712
+row 15 "the group's credential, for the other log" shape stack 4711
+row 15 "the group's credential for writes" ./clients member stack/socket head.credential head.key 4711 <log
+says 'raise' 'object 9000: 8 bytes, version 5' 'object 4712: 26 bytes, version 6'
+granted 'issue anew' m issue 9000 7 read 10 stack.credential stack.key
+granted 'read by it' shape stack 4712
+same 'the log after the raise' bent printed
+granted 'the next stack' m group 9000 4711 4799
+cp printed kept
+row 15 "the credential of the stack before" shape stack 4711
+says 'group' 'object 9000: 8 bytes, version 7' 'group 9000: logs 4711 4799'
+granted 'issue for the next stack' m issue 9000 7 read 10 stack.credential stack.key
+granted 'read by it' shape stack 4711
+same 'the log of both stacks' log printed
+row 33 'a log of the stack before' shape stack 4712
+row 34 'a log that is not there' shape stack 4799
+granted 'create it' m create 4799 5
+cp printed kept
+row 15 'the credential from before there was the log' shape stack 4799
+says 'create' 'object 9000: 8 bytes, version 8' 'object 4799: 5 bytes, version 9'
+granted 'issue for it' m issue 9000 7 read 10 stack.credential stack.key
+granted 'read it' shape stack 4799
+granted 'delete it' m delete 4799
+cat printed >kept
+row 15 'the credential from when there was the log' shape stack 4711
+granted 'create it anew' m create 4799 5
+cat printed >>kept
+says 'delete and create' 'object 9000: 8 bytes, version 10' 'object 4799: deleted' 'object 9000: 8 bytes, version 11' \
+    'object 4799: 5 bytes, version 12'
+say 'a log raised, a new list, a log created and deleted: each time the group is raised too, and the old credential is row 15'
+
+# a list of another length is a new object
+granted 'a longer list' m group 9000 4799 4712 4711
+cp printed kept
+says 'group' 'object 9000: deleted' 'object 9000: 12 bytes, version 13' 'group 9000: logs 4711 4712 4799'
+row 15 'the credential of the shorter list' shape stack 4711
+wrong 'written by' "a group's list written as a shape" m write 9000 <log
+wrong 'a group, and no log' 'the group itself in its list' m group 9000 4711 9000
+wrong 'a group, and no log' 'the group in the list of another' m group 9001 4711 9000
+granted 'a list with a log that is not there' m group 9000 4711 4799 9001
+wrong 'a log, or in the list' 'a log made a group' m group 4712 4713
+wrong 'a log, or in the list' 'what is in a list made a group' m group 9001 4711
+wrong 'from 1, and comes once' 'a member twice' m group 9000 4711 4711
+wrong 'from 1, and comes once' 'member 0' m group 9000 4711 0
+say "no list has a group, and no group's list is written but by the manager's word for it"
+
+# list NUMBER..: a list of the group as this manager would not write it, with the group itself
+list() {
+    for list_number; do printf "\\0\\0\\$(printf %o $((list_number / 256)))\\$(printf %o $((list_number % 256)))"; done >list
+}
+write_list() {
+    mv stack/group-9000 away
+    granted 'a list that the manager would not write' m write 9000 <list
+    mv away stack/group-9000
+}
+list 4711 4799 9000
+write_list
+granted 'issue' m issue 9000 7 read 10 stack.credential stack.key
+granted 'issue for writes' m issue 9000 8 write 10 head.credential head.key
+granted 'read the list' shape stack 9000
+same 'the list' list printed
+list 4711 4712 9000
+granted 'a list written through itself' ./clients member stack/socket head.credential head.key 9000 <list
+cp printed frame
+row 12 'its frame again' ./store send stack/socket <frame
+granted 'read a log of the new list' shape stack 4712
+same 'the log of the new list' bent printed
+row 33 'read a log of the list before' shape stack 4799
+head -c 12 log >none
+granted 'what is no list written through it' ./clients member stack/socket head.credential head.key 9000 <none
+row 32 'read a log' shape stack 4711
+row 32 'write a list' ./clients member stack/socket head.credential head.key 9000 <list
+say 'a group that lists itself, written through itself: the next frame is judged by what was written, by row 32 where that is no list'
+
+# stopped within the gate, such a write has not touched the list, and is not made; half written it would be 4711, 6, 9000
+list 5 6 9000
+write_list
+list 4711 4712 9000
+stop
+serve stopped
+wrong 'Connection reset' 'a list written through itself, broken off' ./clients member stack/socket head.credential head.key 9000 <list
+ended 137
+: >said
+serve
+row 34 'read by the old list' shape stack 5
+row 33 'read by the new list' shape stack 4711
+is 'calls done again after that' 0 "$(grep -c 'done again' said)"
+granted 'the list written through itself' ./clients member stack/socket head.credential head.key 9000 <list
+cp printed frame
+stop
+# stopped behind the gate it is made, but for bytes of the list: as the file would then be, with 5, 4712, 9000
+state=$(number stack/drive 40) at=$(number stack/drive 48) medium=$(($(wc -c <stack/drive) - 8388608))
+is 'bytes that the write changed' 6 "$(number stack/drive 56)"
+put_bytes stack/drive $((medium + at)) '\0\5'
+put_bytes stack/drive 40 "\\$(((state ^ 1) | 4))"
+cp stack/drive other
+put_bytes other 51 '\1'
+wrong 'do not fit' 'a file with bytes for a place behind the medium' no_server other other-socket
+: >said
+serve
+granted 'read a log of the new list' shape stack 4712
+same 'the log of the new list' bent printed
+granted 'read the other log of the new list' shape stack 4711
+is 'calls done again' 1 "$(grep -c 'done again' said)"
+row 33 'read by the old list' shape stack 5
+row 12 'the frame of that write' ./store send stack/socket <frame
+stop
+say 'such a write stopped within the gate is not made, and stopped behind it done to its end'
+
+found pile
+granted 'create a log' m create 4711 21
+granted 'write it' m write 4711 <log
+granted 'create a log of 1 MiB' m create 5 $mebibyte
+granted 'a group of it' m group 9001 5
+granted 'issue' m issue 9001 7 read 10 stack.credential stack.key
+granted 'issue for writes' m issue 9001 8 write 10 head.credential head.key
+granted 'the longest frame there is' ./clients member pile/socket head.credential head.key 5 <large
+granted 'read 1 MiB through a group' shape stack 5
+same 'a shape of 1 MiB through a group' large printed
+play "a group's frames over the bound" overlong pile/socket stack.credential stack.key 5
+stop
+head -c $mebibyte /dev/urandom >large
+broken_off 'a write through a group' ./clients member pile/socket head.credential head.key 5 <large
+granted 'read' shape stack 5
+same 'the shape of a write through a group broken off' large printed
+stop
+broken_off 'a list of another length' m group 9001 4711 5
+granted 'the list once more' m group 9001 4711 5
+granted 'issue for it' m issue 9001 7 read 10 stack.credential stack.key
+cp pile/group-9001 list
+: >pile/group-9001
+wrong 'not written' 'issue for a list that was not written' m issue 9001 7 read 10 none.credential none.key
+cp list pile/group-9001
+stop
+broken_off 'a new list' m group 9001 4712 5
+row 15 'the list once more, under the version that was known' m group 9001 4712 5
+row 15 'the credential for the list that was there' shape stack 5
+granted 'find after it' m find 9001
+granted 'issue for the old list' m issue 9001 7 read 10 stack.credential stack.key
+granted 'read a log of it' shape stack 4711
+same 'a log of the old list' log printed
+granted 'the list once more' m group 9001 4712 5
+row 15 'the credential for the old list' shape stack 5
+granted 'issue' m issue 9001 7 read 10 stack.credential stack.key
+granted 'read' shape stack 5
+same 'the shape after a new list broken off' large printed
+stop
+say '1 MiB through a group; a write through one, and a new list, each stopped in the middle: done again whole'

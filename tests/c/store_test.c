@@ -25,6 +25,7 @@ static struct sievelast_drive drive;
 static uint8_t buffer[BESIDE + MEDIUM + BESIDE], *const medium = buffer + BESIDE;
 static uint8_t master[SIEVELAST_KEY_BYTES], drive_key[SIEVELAST_KEY_BYTES], partition_key[SIEVELAST_KEY_BYTES], black[SIEVELAST_KEY_BYTES];
 static unsigned long answers[SIEVELAST_LAST_ROW + 1]; /* how often each row was the answer */
+static uint8_t last_reply[REPLY];                     /* the reply space as the last call left it, as far as it goes */
 
 static struct sievelast_answered answered(uint64_t row, uint64_t length)
 {
@@ -78,6 +79,8 @@ static struct sievelast_answered put(struct lending l)
     EXPECT(!memcmp(buffer, right_buffer, sizeof buffer));
     EXPECT(!frame.length || !memcmp(frame.bytes, l.frame, frame.length));
     record_as(&before, &right, b.row);
+    if (reply.length)
+        memcpy(last_reply, reply.bytes, reply.length < REPLY ? reply.length : REPLY);
     give_back(&frame), give_back(&reply), give_back(&right_reply);
     return answered(a.row, a.length);
 }
@@ -85,18 +88,22 @@ static struct sievelast_answered put(struct lending l)
 /* ---- hand-made frames: issuer, encoder and builder */
 static struct sievelast_credential who;
 static struct sievelast_request what;
-static uint8_t frame[SIEVELAST_LEAST_FRAME_BYTES + 300], seed[SIEVELAST_SEED_BYTES] = "sixteen bytes ..";
+static int grouped;     /* the request is a group's, .. */
+static uint32_t member; /* .. with this member */
+static uint8_t frame[SIEVELAST_GROUP_FRAME_BYTES + 300], seed[SIEVELAST_SEED_BYTES] = "sixteen bytes ..";
 static size_t frame_len;
 static uint32_t next_count;
 
 /* A frame of who and what, from the key of its slot. */
 static void build(const uint8_t *slot_key, const uint8_t *data)
 {
-    uint8_t credential[SIEVELAST_CREDENTIAL_BYTES], request[SIEVELAST_REQUEST_BYTES];
+    uint8_t credential[SIEVELAST_CREDENTIAL_BYTES], request[SIEVELAST_GROUP_REQUEST_BYTES];
+    size_t request_len = grouped ? SIEVELAST_GROUP_REQUEST_BYTES : SIEVELAST_REQUEST_BYTES;
     struct sievelast_issued i = sievelast_issue(who, slot_key, SIEVELAST_KEY_BYTES, credential, sizeof credential);
     EXPECT_NUMBER(i.row, 0);
-    EXPECT_NUMBER(sievelast_request_encode(what, request, sizeof request), 0);
-    struct sievelast_built b = sievelast_build(credential, sizeof credential, request, sizeof request, data, what.data_len, i.key,
+    EXPECT_NUMBER(grouped ? sievelast_group_request_encode(what, member, request, request_len)
+                          : sievelast_request_encode(what, request, request_len), 0);
+    struct sievelast_built b = sievelast_build(credential, sizeof credential, request, request_len, data, what.data_len, i.key,
                                                SIEVELAST_KEY_BYTES, frame, sizeof frame);
     EXPECT_NUMBER(b.row, 0);
     frame_len = b.length;
@@ -124,6 +131,7 @@ static void ask(int operation, uint32_t object, uint32_t version, uint32_t a, ui
     struct sievelast_request r = {CLOCK, 0, a, b, operation == SIEVELAST_WRITE ? b : 0, (uint8_t)operation, SIEVELAST_LEVEL_REPLY};
     who = c;
     what = r;
+    grouped = 0;
 }
 
 /* Operation 7 under a slot's key; the new key, as the manager knows it. */
@@ -194,9 +202,11 @@ static void rows_of_the_frame(void)
 {
     static const struct { uint64_t row; uint8_t at, value; } cases[] = {
         {3, 0, 0x4d}, {3, 1, 0}, {3, 36, 0}, {3, 37, 0x43}, /* marks */
-        {4, 2, 4}, {4, 3, 5}, {4, 12, 1}, {4, 13, 0xff}, {4, 14, 3}, {4, 15, 1}, {4, 38, 0}, {4, 38, 9}, {4, 39, 3}, {4, 60, 1},
+        {4, 2, 4}, {4, 3, 5}, {4, 12, 1}, {4, 12, 0x80}, {4, 14, 3}, {4, 15, 1}, {4, 38, 0}, {4, 38, 9}, {4, 39, 3}, {4, 60, 1},
         {5, 63, 1}, {5, 38, SIEVELAST_WRITE}, {5, 38, SIEVELAST_SET_KEY}, {5, 38, SIEVELAST_LOAD_TABLE}, /* the data's length */
+        {5, 37, 0x47}, /* a group's request is longer */
         {6, 3, SIEVELAST_SLOT_PARTITION}, {6, 7, 0}, {6, 38, SIEVELAST_CREATE}, {6, 38, SIEVELAST_LOOK}, {6, 38, SIEVELAST_DELETE},
+        {6, 13, 0x80}, {6, 13, 0xff}, /* a group credential */
         {8, 3, SIEVELAST_SLOT_GOLD}, {8, 2, 3}, /* keys that nobody set */
         {9, 0 + 7, 9}, {9, 36 + 11, 1}, {9, 64, 0}, {9, 95, 0},
     };
@@ -552,12 +562,12 @@ static void ask_under(int partition, int slot, int operation)
 /* Puts it, signed by the record's own keys and without the builder, which would not write every one; its row. */
 static uint64_t row_signed(const uint8_t *data)
 {
-    struct draft f;
+    struct draft f = {.grouped = grouped, .member = member};
     what.count = next_count++;
     f.who = who, f.what = what;
-    f.length = SIEVELAST_LEAST_FRAME_BYTES + what.data_len;
+    f.length = draft_length(&f);
     draft_records(&f);
-    memcpy(f.frame + SIEVELAST_CREDENTIAL_BYTES + SIEVELAST_REQUEST_BYTES, data, what.data_len);
+    memcpy(f.frame + draft_records_length(&f), data, what.data_len);
     draft_sign(&f, &drive);
     struct lending l = {f.frame, f.length, REPLY, drive.size, CLOCK, 0, 0};
     return put(l).row;
@@ -834,6 +844,8 @@ static void has_nothing(void)
     }
 }
 
+#include "store_groups.h"
+
 /* ---- row 23: a reply space too short by one, exact and longer, for each operation and level; the rest of the reply is checked */
 static void reply_spaces(int level)
 {
@@ -929,9 +941,8 @@ static void issue_refused(uint64_t right, struct sievelast_credential c, size_t 
     give_back(&space), give_back(&kept);
 }
 
-static void issuer(void)
+static void issue_granted(struct sievelast_credential good)
 {
-    struct sievelast_credential good = {9, 8, 7, 6, 5, 4, SIEVELAST_EVERY_RIGHT, 3, SIEVELAST_SLOT_GOLD, SIEVELAST_LEVEL_REPLY}, bad;
     struct lent space = filled(SIEVELAST_CREDENTIAL_BYTES + 5, 3, NULL);
     uint8_t bytes[SIEVELAST_CREDENTIAL_BYTES], key[SIEVELAST_KEY_BYTES];
     struct sievelast_issued i = sievelast_issue(good, master, SIEVELAST_KEY_BYTES, space.bytes, space.length);
@@ -943,12 +954,22 @@ static void issuer(void)
     for (size_t at = sizeof bytes; at < space.length; at++)
         EXPECT_NUMBER(space.bytes[at], FILL);
     give_back(&space);
+}
+
+static void issuer(void)
+{
+    struct sievelast_credential good = {9, 8, 7, 6, 5, 4, SIEVELAST_EVERY_RIGHT, 3, SIEVELAST_SLOT_GOLD, SIEVELAST_LEVEL_REPLY}, bad, group;
+    issue_granted(good);
+    for (uint32_t rights = 0; rights <= 0xff; rights++) /* a group's too, whatever its object and slot: row 28 cites rows 3 and 4 */
+        for (uint32_t object = 0; object <= 1; object++)
+            group = good, group.rights = (uint16_t)rights, group.object = object, group.slot = (uint8_t)(rights % 3), issue_granted(group);
     issue_refused(26, good, SIEVELAST_KEY_BYTES - 1, SIEVELAST_CREDENTIAL_BYTES);
     issue_refused(26, good, 0, 0);
     bad = good, bad.partition = 4, issue_refused(28, bad, SIEVELAST_KEY_BYTES, SIEVELAST_CREDENTIAL_BYTES);
     bad = good, bad.slot = 5, issue_refused(28, bad, SIEVELAST_KEY_BYTES, SIEVELAST_CREDENTIAL_BYTES);
     bad = good, bad.slot = SIEVELAST_SLOT_MASTER, issue_refused(28, bad, SIEVELAST_KEY_BYTES, SIEVELAST_CREDENTIAL_BYTES);
-    bad = good, bad.rights = 0x80, issue_refused(28, bad, SIEVELAST_KEY_BYTES, SIEVELAST_CREDENTIAL_BYTES);
+    bad = good, bad.rights = 0x100, issue_refused(28, bad, SIEVELAST_KEY_BYTES, SIEVELAST_CREDENTIAL_BYTES);
+    bad = good, bad.rights = 0x8080, issue_refused(28, bad, SIEVELAST_KEY_BYTES, SIEVELAST_CREDENTIAL_BYTES);
     bad = good, bad.least = 3, issue_refused(28, bad, SIEVELAST_KEY_BYTES, 0);
     issue_refused(29, good, SIEVELAST_KEY_BYTES, SIEVELAST_CREDENTIAL_BYTES - 1);
     issue_refused(29, good, SIEVELAST_KEY_BYTES, 0);
@@ -1021,6 +1042,7 @@ static void hmacs(int largest)
 static struct tally {
     unsigned long unsound, judged, granted;
 } tallies[RECORD_PARTS];
+static unsigned long grouped_grants;
 
 static void spoil_one(size_t part, size_t i, uint32_t way, struct choices *s)
 {
@@ -1044,11 +1066,13 @@ static void put_spoiled(struct tally *t, const uint8_t *bytes, size_t length, ui
 static void put_draft(struct tally *t, struct choices *s)
 {
     struct draft f;
-    draft_call(&f, &drive, s);
+    draft_call(&f, &drive, drive.size <= MEDIUM ? medium : NULL, s);
     if (choose(s, 8) == 0)
         for (size_t i = 0; i < sizeof f.frame; i++)
             f.frame[i] = choose_byte(s);
+    unsigned long granted = answers[SIEVELAST_GRANTED];
     put_spoiled(t, f.frame, f.length, f.clock, draft_space(&f, s));
+    grouped_grants += answers[SIEVELAST_GRANTED] > granted && paper_call_of(f.frame).grouped;
 }
 
 /* Each number of each part, in every way, before a read that would be granted, and before a draft; of the long parts only every so
@@ -1058,7 +1082,7 @@ static void spoil_each(size_t step)
     struct choices s = {NULL, 0, 77};
     ready(1);
     for (uint32_t i = 2; i <= 12; i++)
-        ask(SIEVELAST_CREATE, 0, 1, i, 1 + i % 5), make(black, NULL), EXPECT_NUMBER(row(), 0);
+        ask(SIEVELAST_CREATE, 0, 1, i, 1 + i % 9), make(black, NULL), EXPECT_NUMBER(row(), 0);
     struct sievelast_drive sound = drive;
     uint8_t kept[sizeof buffer];
     memcpy(kept, buffer, sizeof buffer);
@@ -1098,6 +1122,7 @@ static void spoil_round(struct choices *s)
 static void spoiled(unsigned long rounds)
 {
     struct choices s = {NULL, 0, 20260101};
+    memset(answers, 0, sizeof answers);
     spoil_each(rounds < FEW_ROUNDS ? LONG_STEP : 1);
     for (unsigned long i = 0; i < rounds; i++) {
         if (i % 25 == 0) {
@@ -1116,6 +1141,23 @@ static void spoiled(unsigned long rounds)
         EXPECT((t->unsound > 0) == record_parts[k].in_row_1);
         EXPECT(t->judged > 0 && t->granted > 0);
     }
+    printf("store: of these through a group: %lu granted, %lu by a list that is none, %lu not a member, %lu a member that is not there\n",
+           grouped_grants, answers[SIEVELAST_ROW_GROUP_LIST], answers[SIEVELAST_ROW_NOT_MEMBER], answers[SIEVELAST_ROW_NO_MEMBER]);
+    for (int row = SIEVELAST_ROW_GROUP_LIST; row <= SIEVELAST_ROW_NO_MEMBER; row++)
+        EXPECT(answers[row] > 0 || rounds < FEW_ROUNDS);
+    EXPECT(grouped_grants > 0);
+}
+
+static void operation_tables(void)
+{
+    two_mills();
+    odd_table();
+    good_and_bad();
+    rows_of_the_load();
+    order_of_the_load();
+    reply_of_the_load();
+    table_stays();
+    any_line();
 }
 
 int main(int argc, char **argv)
@@ -1133,14 +1175,8 @@ int main(int argc, char **argv)
     two_heads();
     entries_moved();
     memory_of_objects();
-    two_mills();
-    odd_table();
-    good_and_bad();
-    rows_of_the_load();
-    order_of_the_load();
-    reply_of_the_load();
-    table_stays();
-    any_line();
+    operation_tables();
+    groups(largest);
     for (int level = 0; level <= SIEVELAST_LEVEL_REPLY; level++)
         reply_spaces(level);
     alignments();

@@ -15,6 +15,10 @@ struct sievelast_checked __wrap_sievelast_check(const uint8_t *, size_t, const u
 /* A byte past or before a space, written where no sanitizer looks. */
 __attribute__((no_sanitize("address", "undefined"), unused)) static void spoil(uint8_t *at) { *(volatile uint8_t *)at = 1; }
 
+#if BROKEN_build > 8 || BROKEN_check > 8
+#include "broken_records.h"
+#endif
+
 /* Whether a request is operation 8's at level 0. */
 __attribute__((unused)) static int low_load(const uint8_t *r, size_t r_len)
 {
@@ -58,6 +62,8 @@ struct sievelast_built __wrap_sievelast_build(const uint8_t *c, size_t c_len, co
 #elif BROKEN_build == 8 /* operation 8 not known */
     if (b.row == 0 && r[2] == 8)
         b.row = 28, b.length = 0, memset(s, 0xee, s_len);
+#elif BROKEN_build > 8
+    b = misgrouped_build(b, c, c_len, r, r_len, d, d_len, k, k_len, s, s_len);
 #endif
     return b;
 }
@@ -90,6 +96,8 @@ struct sievelast_checked __wrap_sievelast_check(const uint8_t *c, size_t c_len, 
 #elif BROKEN_check == 8 /* operation 8 not known */
     if (x.row == 0 && r[2] == 8)
         x.row = 28, x.start = x.length = 0;
+#elif BROKEN_check > 8
+    x = misgrouped_check(x, c, c_len, r, r_len, k, k_len, p, p_len);
 #endif
     return x;
 }

@@ -1,5 +1,5 @@
-/* Wrong drives, to see that the target `gate` notices: linked with -Wl,--wrap, each spoils what the proved code gives. BROKEN_gate says
- * which. */
+/* Wrong drives, to see that the target `gate` and store_test notice: linked with -Wl,--wrap, each spoils what the proved code gives, or
+ * stands in its place. BROKEN_gate says which. */
 #include "paper_drive.h"
 #include "parts.h"
 
@@ -59,7 +59,9 @@ static void copy(void *to, const void *from, size_t n)
     if (n)
         memcpy(to, from, n);
 }
+#endif
 
+#if BROKEN_gate > 21 && BROKEN_gate <= 44
 /* The real drive where the wrong one meets a row more: a grant is undone, and the row comes before what the real drive goes on to. */
 static struct sievelast_answered turned_away(uint64_t row, const struct paper_call *q, GATE_PARAMETERS)
 {
@@ -82,8 +84,12 @@ static struct sievelast_answered turned_away(uint64_t row, const struct paper_ca
 }
 #endif
 
-#if BROKEN_gate > 30
+#if BROKEN_gate > 30 && BROKEN_gate <= 44
 #include "broken_table.h"
+#endif
+
+#if BROKEN_gate > 44
+#include "broken_group.h"
 #endif
 
 /* ---- drives that put a create's area by another rule than change 3's */
@@ -200,6 +206,8 @@ static struct sievelast_answered answer_of(GATE_PARAMETERS)
 #if BROKEN_gate == 21 /* row 1 asks for the step */
     struct sievelast_answered unsound = {1, 0};
     return off_step(tables) ? unsound : __real_sievelast_gate_parts(GATE_PASSED);
+#elif BROKEN_gate > 44
+    return misgrouped(GATE_PASSED);
 #elif BROKEN_gate > 30
     return mistabled(GATE_PASSED);
 #elif BROKEN_gate > 21

@@ -23,12 +23,12 @@ static void reply_accepted(const uint8_t *k)
 static void frame_right(const uint8_t *k)
 {
     uint8_t digest[32];
-    size_t n = rest.length;
+    size_t n = rest.length, records = 36 + request.length;
     MUST(!memcmp(space.lent, credential.lent, 36));
-    MUST(!memcmp(space.lent + 36, request.lent, 28));
-    MUST(n == 0 || !memcmp(space.lent + 64, rest.lent, n));
-    paper_digest(k, credential.lent, request.lent, rest.lent, request.lent[3] ? n : 0, digest);
-    MUST(!memcmp(space.lent + 64 + n, digest, 32));
+    MUST(!memcmp(space.lent + 36, request.lent, request.length));
+    MUST(n == 0 || !memcmp(space.lent + records, rest.lent, n));
+    test_hmac(k, 32, space.lent, records + (request.lent[3] ? n : 0), digest);
+    MUST(!memcmp(space.lent + records + n, digest, 32));
 }
 
 int LLVMFuzzerTestOneInput(const uint8_t *bytes, size_t size);
@@ -36,14 +36,14 @@ int LLVMFuzzerTestOneInput(const uint8_t *bytes, size_t size)
 {
     read_input(bytes, size);
     const uint8_t *k = key_given();
-    area_lend(&space, about(head[5], 96 + rest.length), head[6] & 16, head[6] & 32);
+    area_lend(&space, about(head[5], frame_bytes()), head[6] & 16, head[6] & 32);
     memset(space.lent, FILL, space.length);
     area_shut(&credential), area_shut(&request), area_shut(&key), area_shut(&rest);
     struct sievelast_built b = sievelast_build(credential.given, credential.length, request.given, request.length, rest.given,
                                                rest.length, k, key.length, space.given, space.length);
     uint64_t row = paper_build(credential.lent, credential.length, request.lent, request.length, rest.length, key.length, space.length);
     MUST(b.row == row);
-    MUST(b.length == (row ? 0 : 96 + rest.length));
+    MUST(b.length == (row ? 0 : frame_bytes()));
     MUST(b.length <= space.length);
     area_intact(&space);
     for (size_t i = b.length; i < space.length; i++)

@@ -11,7 +11,8 @@ static void a_reply(const uint8_t *k)
     size_t n = rest.length, all = n;
     memset(made, 0, sizeof made);
     memcpy(made, rest.lent, n);
-    if (head[7] & 1 && credential.length == 36 && request.length == 28 && key.length == 32) {
+    int formed = request.length >= 28 && request.length == request_length(request.lent);
+    if (head[7] & 1 && credential.length == 36 && formed && key.length == 32) {
         if (head[7] & 2)
             n = paper_result(request.lent) % MOST;
         memmove(made + 8, made, n);

@@ -145,10 +145,58 @@ static void promised_tables(const struct paper_call *q, struct sievelast_drive *
         }
 }
 
+/* An object's place in its table, which has it. */
+static uint32_t place_of(const uint32_t *t, uint32_t object)
+{
+    uint32_t i = 0;
+    while (i < SIEVELAST_MOST_OBJECTS && (i >= t[COUNT_AT] || t[NUMBERS_AT + i] != object))
+        i++;
+    MUST(i < SIEVELAST_MOST_OBJECTS);
+    return i;
+}
+
+/* "Four-byte object numbers from 1, in strictly rising order, and no other byte", and the member among them. */
+static void promised_list(const uint8_t *list, uint32_t size, uint32_t member)
+{
+    uint8_t before[SIEVELAST_MEMBER_BYTES] = {0}, wanted[SIEVELAST_MEMBER_BYTES];
+    int found = 0;
+    put_number(wanted, sizeof wanted, member);
+    MUST(size % sizeof wanted == 0);
+    for (uint32_t at = 0; at < size; at += sizeof wanted) {
+        MUST(memcmp(before, list + at, sizeof before) < 0); /* as bytes, the highest first, and as numbers alike */
+        memcpy(before, list + at, sizeof before);
+        found += !memcmp(wanted, before, sizeof wanted);
+    }
+    MUST(found == 1);
+}
+
+/* A grant through a group: what it did was done to the member, by the group's version and a list that has it. */
+static void promised_group(const struct paper_call *q, struct sievelast_drive *before, struct sievelast_drive *after)
+{
+    const uint32_t *t = table_of(before, q->partition), group = place_of(t, q->object), member = place_of(t, q->target);
+    size_t quarter = q->partition * (before->size / SIEVELAST_PARTITIONS), at = quarter + t[STARTS_AT + member];
+    const uint8_t *result = reply.lent + SIEVELAST_REPLY_HEAD_BYTES;
+    MUST(q->object != 0 && q->operation <= SIEVELAST_LOOK && q->slot <= SIEVELAST_SLOT_GOLD && q->version == t[VERSIONS_AT + group]);
+    promised_list(medium_before + quarter + t[STARTS_AT + group], t[SIZES_AT + group], q->target);
+    MUST(entry_at(after->entries, first_place(q->memory) + after->lengths[q->memory] - 1)[ENTRY_OBJECT] == q->object);
+    if (q->operation == SIEVELAST_LOOK) {
+        MUST(number(result, 4) == t[SIZES_AT + member] && number(result + 4, 4) == t[VERSIONS_AT + member]);
+        return;
+    }
+    MUST(q->first <= q->a && q->sum <= q->end && q->sum <= t[SIZES_AT + member]);
+    if (q->operation == SIEVELAST_READ && q->b)
+        MUST(!memcmp(result, medium_before + at + q->a, q->b));
+    for (size_t i = 0; i < medium.length; i++) {
+        size_t in = i - (at + q->a);
+        int written = q->operation == SIEVELAST_WRITE && i >= at + q->a && in < q->b;
+        MUST(medium.lent[i] == (written ? q->data[in] : medium_before[i]));
+    }
+}
+
 /* What holds of every call, judged without the paper's gate. */
 static void promised(struct sievelast_answered a, struct sievelast_drive *before, struct sievelast_drive *after)
 {
-    MUST(a.row <= 23 || a.row == 31);
+    MUST(a.row <= 23 || (a.row >= 31 && a.row <= 34));
     MUST(after->size == before->size);
     MUST(after->highwater >= before->highwater);
     if (a.row == 1)
@@ -163,6 +211,9 @@ static void promised(struct sievelast_answered a, struct sievelast_drive *before
         MUST(a.length == reply_length(&q) && a.length <= reply.length);
         if (q.operation == SIEVELAST_CREATE)
             promised_object(&q, after);
+        MUST(q.grouped == ((q.rights & SIEVELAST_GROUP_RIGHT) != 0));
+        if (q.grouped)
+            promised_group(&q, before, after);
         promised_tables(&q, before, after);
     }
     for (size_t i = a.length; i < reply.length; i++)
@@ -209,7 +260,7 @@ static void frame_lend(const uint8_t *bytes, size_t length, size_t space)
 static void a_draft(struct choices *s, size_t medium_len)
 {
     struct draft f;
-    draft_call(&f, &drive, s);
+    draft_call(&f, &drive, drive.size <= medium.length ? medium.lent : NULL, s);
     frame_lend(f.frame, f.length, draft_space(&f, s));
     if (put(medium_len, f.clock) == 0)
         MUST(put(medium_len, f.clock) == 12); /* the same call again */

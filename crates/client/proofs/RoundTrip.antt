@@ -6,7 +6,7 @@ use Prim.Native.Nat.{ℕ}
 use lib.ListN.{take}
 use Rattle.lemmas.specs.RowTable.{firstRow}
 use Rattle.rules.specs.Client.{build, buildRows, frameOf}
-use Rattle.rules.specs.Frame.{credentialAt, requestAt}
+use Rattle.rules.specs.Frame.{credentialAt, credentialLength, fields, requestAt, startsBehind}
 use Rattle.rules.proofs.Demand2.{build-zero}
 use Rattle.rules.proofs.RoundTrip.{reads-back}
 use Rattle.wire.specs.Parse.{answerBy, fieldsOf, frameRow, frameAnswer}
@@ -23,10 +23,13 @@ module _ (a b p k s : List ℕ) (r : Built) (after : List ℕ) (m : BuildMet a b
       ap (λ (n : ℕ). take n after) (m .length) ∙ ap (take (build a b p k s .length)) (m .space)
       ∙ reads-back a b p k s built-accepted .frame
 
-  -- the parse answers with the fields of that credential and request
-  pub built-parsed : frameAnswer (take (r .length) after) ≡ fieldsOf (credentialAt a 0) (requestAt b 0)
-  unfolding frameAnswer frameRow answerBy
+  -- the parse answers with the fields of that credential and request, and with the places of its parts
+  pub built-parsed : frameAnswer (take (r .length) after)
+      ≡ fieldsOf (credentialAt a 0) (requestAt b 0) (startsBehind (credentialLength (credentialAt a 0)) (requestAt b 0))
+  unfolding frameAnswer frameRow answerBy fields
   built-parsed =
       let t = reads-back a b p k s built-accepted in
       ap frameAnswer built-frame
-      ∙ rw (t .accepted) (λ i. fieldsOf (t .fields i .cred) (t .fields i .req))
+      ∙ rw (t .accepted) (λ i.
+      let x = t .fields i in
+      fieldsOf (x .cred) (x .req) (startsBehind (credentialLength (x .cred)) (x .req)))

@@ -45,9 +45,6 @@ pub fn build(credential: &[u8], request: &[u8], bytes: &[u8], key: &[u8], space:
     }
     let r = fields::request_in(request, 0);
     let digest = rows::frame_digest(credential, request, bytes, key, r.level);
-    rows::join(credential, request, bytes, &digest, space);
-    Built {
-        row: 0,
-        length: fields::LEAST_FRAME + bytes.len(),
-    }
+    let length = rows::join(credential, request, bytes, &digest, space);
+    Built { row: 0, length }
 }

@@ -7,8 +7,7 @@ ghost use Rattle.lemmas.specs.Lists.{splice};
 ghost use Rattle.lemmas.specs.RowTable.{firstRow};
 ghost use Rattle.digest.specs.Hmac.{hmac};
 ghost use Rattle.rules.specs.Client.{buildRows, issueRows};
-ghost use Rattle.rules.specs.Frame.{covered, credentialSize, requestSize};
-ghost use Rattle.rules.specs.Rows.{leastFrame};
+ghost use Rattle.rules.specs.Frame.{covered, digestSize};
 use digest::mac;
 use lemmas::pick;
 
@@ -25,8 +24,11 @@ pub fn issue_row(c: rules::Credential, key: usize, space: usize) -> u32
 pub fn build_row(credential: &[u8], request: &[u8], n: usize, key: usize, space: usize) -> u32
     ensures { λ row. ⌜ ((p k s : List ℕ) → length p ≡ n → length k ≡ key → length s ≡ space → row ≡ firstRow (buildRows (now (credential .entry)) (now (request .entry)) p k s)) ⌝ }
 {
+    let c = fields::credential_in(credential, 0);
     let r = fields::request_in(request, 0);
-    let row = pick(!octets::fits(space, fields::LEAST_FRAME, n), 29, 0);
+    let start = fields::credential_length(c);
+    let rest = fields::rest_length(r);
+    let row = pick(!octets::fits(space, start, rest), 29, 0);
     let row = pick(
         record_rows::bad_records(credential, request) | (r.n as usize != n),
         28,
@@ -51,19 +53,23 @@ pub fn frame_digest(
     mac::of3(key, credential, request, bytes)
 }
 
-// The four parts of a frame, one after the other, at the start of the space.
+// The four parts of a frame, one after the other, at the start of the space; and how long they are together.
 pub fn join(
     credential: &[u8],
     request: &[u8],
     bytes: &[u8],
     digest: &[u8; rules::DIGEST_SIZE],
     space: &mut [u8],
-)
-    requires { ⌜ (length (now credential) ≡ credentialSize) × (length (now request) ≡ requestSize) × (leastFrame + length (now bytes) ≤ length (now space)) ⌝ }
-    ensures { λ _. ⌜ now (space .exit) ≡ splice (now (space .entry)) 0 (now (credential .entry) ++ (now (request .entry) ++ (now (bytes .entry) ++ now (digest .entry)))) ⌝ }
+) -> usize
+    requires { ⌜ length (now credential) + length (now request) + length (now bytes) + digestSize ≤ length (now space) ⌝ }
+    ensures { λ n. ⌜ (n ≡ length (now (credential .entry)) + length (now (request .entry)) + length (now (bytes .entry)) + digestSize) × (now (space .exit) ≡ splice (now (space .entry)) 0 (now (credential .entry) ++ (now (request .entry) ++ (now (bytes .entry) ++ now (digest .entry))))) ⌝ }
 {
     octets::copy_to(space, 0, credential);
-    octets::copy_to(space, fields::REQUEST_START, request);
-    octets::copy_to(space, fields::DATA_START, bytes);
-    octets::copy_to(space, fields::DATA_START + bytes.len(), digest);
+    let at = credential.len();
+    octets::copy_to(space, at, request);
+    let at = at + request.len();
+    octets::copy_to(space, at, bytes);
+    let at = at + bytes.len();
+    octets::copy_to(space, at, digest);
+    at + rules::DIGEST_SIZE
 }

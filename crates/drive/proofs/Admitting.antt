@@ -1,5 +1,5 @@
 -- What the code of `admit` finds and does, in the rules' words: rows 7, 8, 9 and the judged ones, and the grant. All of the
--- facts, keys, table and memory that a frame can see.
+-- facts, keys, table and memory that a frame can see, and of the medium.
 use mathlib.Core.Path.{_≡_, refl, sym, ap, subst, _∙_}
 use mathlib.Core.Bool.{Bool, true, false, not, cond}
 use mathlib.Core.Option.{Option, none, some}
@@ -19,7 +19,7 @@ use Rattle.rules.specs.declared.Entry.{Entry}
 use Rattle.rules.specs.declared.Need.{Need}
 use Rattle.rules.specs.declared.Object.{Object}
 use Rattle.rules.specs.declared.Operation.{Operation}
-use Rattle.rules.specs.Frame.{Fields, fields, digestSize, covered, entry, operation, operationOf, keySize}
+use Rattle.rules.specs.Frame.{Fields, fields, digestSize, covered, entry, operation, operationOf, keySize, targetOf}
 use Rattle.rules.specs.Drive.{quarter, mostEntries}
 use Rattle.rules.specs.Scope.{Scope}
 use Rattle.rules.specs.Operations.{
@@ -27,6 +27,10 @@ use Rattle.rules.specs.Operations.{
   signing,
   credentialKey,
   digestOf,
+  extentBytes,
+  extentStart,
+  namedObject,
+  objectOf,
   placement,
   headSize,
   resultLength,
@@ -35,20 +39,22 @@ use Rattle.rules.specs.Operations.{
   remember,
 }
 use Rattle.rules.specs.Needs.{needUnder}
-use Rattle.rules.specs.Rows.{lowLevel, needOf, row7, row8, row9, row12, driveRows, scopeRows}
+use Rattle.rules.specs.Rows.{groupBytes, lowLevel, needOf, row7, row8, row9, row12, driveRows, scopeRows}
 use Rattle.rules.specs.Gate.{Answer, granted, refused}
 use Rattle.rules.proofs.Clear.{Clear, clear22}
+use Rattle.rules.proofs.Holds.{quarter-in}
 use Rattle.rules.proofs.Memories.{room-left}
+use Rattle.rules.proofs.Sound.{partition-is}
 use Rattle.wire.specs.declared.ParsedRequest.{ParsedRequest}
 use Rattle.wire.specs.Parse.{numbersOf, frameRow}
 use Rattle.keyring.specs.Keys.{keysIn, keyIndex}
 use Rattle.state.specs.declared.Lookup.{Lookup}
 use Rattle.state.specs.Table.{needsIn, objectsIn, partitionIn, lookupIn}
 use Rattle.judge.specs.declared.ScopeFacts.{ScopeFacts}
-use Rattle.judge.specs.Judge.{placementFor, FactsHold}
+use Rattle.judge.specs.Judge.{listRow, placementFor, FactsHold}
 use Rattle.effect.specs.declared.GrantContext.{GrantContext}
 use Rattle.effect.specs.Effect.{mediumAfter}
-use Rattle.effect.specs.Performed.{ContextFits, BytesFit, medium-is}
+use Rattle.effect.specs.Performed.{ContextFits, BytesFit, medium-is, reachedBy}
 use Rattle.digest.specs.declared.mac.Mac.{Mac}
 use Rattle.digest.specs.Keyed.{Keyed}
 use Rattle.sealed_reply.specs.Reply.{replyPut}
@@ -56,8 +62,8 @@ use Rattle.sealed_reply.specs.Performed.{reply-is}
 use Rattle.partition.specs.Applied.{ChangeFits}
 use Rattle.drive.specs.declared.Outcome.{Outcome}
 use Rattle.drive.specs.Admission.{scopeFrom, scopeAnswer, grantContext, AdmitRequires, ServeRequires, OutcomeMet}
-use Rattle.drive.proofs.Frames.{parsed-row, parsed-credential, parsed-request}
-use Rattle.drive.proofs.Grants.{numbers-operation, bytes-fit, result-long, reply-room, context-fits, change-fits}
+use Rattle.drive.proofs.Frames.{in-four, parsed-row, parsed-credential, parsed-request}
+use Rattle.drive.proofs.Grants.{found-inside, numbers-operation, bytes-fit, result-long, reply-room, context-fits, change-fits}
 
 -- the bytes of a key, as the code lends them
 pub secret-is : (ks : List ℕ) (j k : ℕ) → j ≡ k
@@ -67,13 +73,19 @@ secret-is ks j k e =
     let n : keySize * j + keySize - keySize * j ≡ keySize = omega arith in
     ap (λ (i : ℕ). take i (drop (keySize * j) ks)) n ∙ ap (λ (i : ℕ). take keySize (drop (keySize * i) ks)) e
 
+-- where the object that a credential names starts on the medium: `found` is that object
+abbrev pub foundStart : ScopeFacts → Credential → Lookup → ℕ
+foundStart s c found = c .partition * quarter (s .size) + found .object .start
+
 -- what the code works out before it judges, of the request's numbers r: the lengths of result and reply, the object that the
--- credential names, and where a new extent would start
-pub record Prepared (s : ScopeFacts) (t : List ℕ) (c : Credential) (r : Request) (n whole : ℕ) (found : Lookup)
-    (place : Option ℕ) : Type 0 where
+-- credential names, what rows 32 and 33 say of its bytes, the object that the frame reaches, and where a new extent would start
+pub record Prepared (s : ScopeFacts) (t m : List ℕ) (c : Credential) (r : Request) (n whole : ℕ) (found : Lookup) (listed : ℕ)
+    (target : Lookup) (place : Option ℕ) : Type 0 where
   pub result : n ≡ resultLength r
   pub reply : whole ≡ headSize + n + cond (r .level is 2) digestSize 0
   pub named : found ≡ lookupIn (objectsIn t) (c .object)
+  pub list : listed ≡ listRow (part m (foundStart s c found) (found .object .size)) r
+  pub reached : target ≡ lookupIn (objectsIn t) (targetOf c r)
   pub placed : place ≡ placementFor (quarter (s .size)) (objectsIn t) r
 
 module _ {s : ScopeFacts} {ks t : List ℕ} {l : List Entry} {m f : List ℕ} {c : Credential} {request : ParsedRequest}
@@ -93,6 +105,19 @@ module _ {s : ScopeFacts} {ks t : List ℕ} {l : List Entry} {m f : List ℕ} {c
   name-is : operationOf y ≡ request .operation
   name-is = ap operation (sym request-is) ∙ numbers-operation request
 
+  -- ---- the object that the credential names, or nothing, lies on the medium
+  pub inside-medium : {found : Lookup} → found ≡ lookupIn (objectsIn t) (c .object)
+      → foundStart s c found + found .object .size ≤ length m
+  unfolding lookupIn partitionIn
+  inside-medium {found} named =
+      let Q : ℕ = quarter (s .size) in
+      rw named (omega (
+        arith,
+        found-inside Q (partitionIn t .last) (c .object) (objectsIn t) (partition-is Q (partitionIn t) (w .sound) .each),
+        quarter-in (s .size) (c .partition) (in-four (w .parsed)),
+        w .size,
+      ))
+
   -- ---- row 7, by what the operation needs
   needed : needOf S (y .cred) (y .req) ≡ needUnder (needsIn t) (c .slot) (numbersOf request .operation)
   unfolding needOf partitionIn
@@ -106,10 +131,10 @@ module _ {s : ScopeFacts} {ks t : List ℕ} {l : List Entry} {m f : List ℕ} {c
   -- ---- rows 7 and on, for a reply space
   module _ (space : List ℕ) where
     abbrev table : List Row
-    table = driveRows S y space
+    table = driveRows S m y space
 
     abbrev judged : List Row
-    judged = scopeRows S (y .cred) (y .req) (y .payload) (length space)
+    judged = scopeRows S (y .cred) (y .req) (y .payload) (groupBytes S (y .cred) m) (length space)
 
     abbrev from9 : List Row
     from9 = line 9 (row9 S y) ∷ judged
@@ -167,7 +192,7 @@ module _ {s : ScopeFacts} {ks t : List ℕ} {l : List Entry} {m f : List ℕ} {c
       nine h = past8 space high ∙ row-here (line 9 (row9 S y)) (judged space) (row9-is ∙ ap not h)
 
       pub from10 : signed ≡ true
-          → firstRow (table space) ≡ firstRow (scopeRows S c (numbersOf request) (y .payload) (length space))
+          → firstRow (table space) ≡ firstRow (scopeRows S c (numbersOf request) (y .payload) (groupBytes S c m) (length space))
       from10 h =
           past8 space high ∙ row-next (line 9 (row9 S y)) (judged space) (row9-is ∙ ap not h)
           ∙ rw (c-is, request-is) refl
@@ -193,7 +218,7 @@ module _ {s : ScopeFacts} {ks t : List ℕ} {l : List Entry} {m f : List ℕ} {c
 
     -- ---- no row applies
     module _ (first : firstRow (table space) ≡ 0) where
-      clear : Clear f S space
+      clear : Clear f S m space
       unfolding frameRow
       clear = record { frame = parsed-row (w .parsed); drive = first }
 
@@ -228,7 +253,8 @@ module _ {s : ScopeFacts} {need : Need} {bad : Bool} {ks t : List ℕ} {l : List
   pub high : row7 (S w) (y w .cred) (y w .req) ≡ false
   high = level-is w ∙ rw (← v .numbers, ← v .needed) (v .level)
 
-  module _ {n whole : ℕ} {found : Lookup} {place : Option ℕ} (p : Prepared s t c r n whole found place) where
+  module _ {n whole : ℕ} {found : Lookup} {listed : ℕ} {target : Lookup} {place : Option ℕ}
+      (p : Prepared s t m c r n whole found listed target place) where
     whole-is : whole ≡ replyLength r
     unfolding replyLength
     whole-is = p .reply ∙ ap (λ (i : ℕ). headSize + i + cond (r .level is 2) digestSize 0) (p .result)
@@ -237,8 +263,8 @@ module _ {s : ScopeFacts} {need : Need} {bad : Bool} {ks t : List ℕ} {l : List
     r-is = v .numbers ∙ request-is w
 
     -- what the judge knows
-    pub judge-facts : FactsHold (S w) s (partitionIn t) c need bad r (y w .payload) found place whole
-    unfolding placement partitionIn needOf
+    pub judge-facts : FactsHold (S w) s (partitionIn t) c need bad r (y w .payload) (groupBytes (S w) c m) listed found target place whole
+    unfolding placement partitionIn needOf extentBytes extentStart objectOf namedObject lookupIn
     judge-facts = record {
       marked = refl;
       own = refl;
@@ -246,16 +272,18 @@ module _ {s : ScopeFacts} {need : Need} {bad : Bool} {ks t : List ℕ} {l : List
       entries = w .held;
       need = sym (v .needed);
       load = sym (v .load);
+      list = sym (p .list ∙ rw (p .named) refl);
       named = p .named;
+      reached = p .reached;
       placed = p .placed;
       whole = whole-is;
     }
 
     -- the grant
     module _ (space : List ℕ) (first : firstRow (table w space) ≡ 0) where
-      named-y : found ≡ lookupIn ((S w) .partition .objects) (y w .cred .object)
+      reached-y : target ≡ lookupIn ((S w) .partition .objects) (reachedBy (y w))
       unfolding partitionIn
-      named-y = p .named ∙ ap (λ (h : Credential). lookupIn (objectsIn t) (h .object)) (c-is w)
+      reached-y = p .reached ∙ rw (c-is w, r-is) refl
 
       placed-y : place ≡ cond (y w .req .operation isnt 5) none (placement (S w) (y w .req .B))
       unfolding placement partitionIn
@@ -263,7 +291,7 @@ module _ {s : ScopeFacts} {need : Need} {bad : Bool} {ks t : List ℕ} {l : List
 
       pub granted-given : {secret : List ℕ} → keyIn (keysIn ks) (c .partition) (c .slot) ≡ some secret
           → (j : ℕ) → j ≡ keyIndex (c .slot) (c .partition)
-          → (k : GrantContext) → k ≡ grantContext (s .size) (partitionIn t) c found place
+          → (k : GrantContext) → k ≡ grantContext (s .size) (partitionIn t) c (targetOf c (numbersOf request)) target place
           → (after replied : List ℕ) → after ≡ mediumAfter (request .operation) k (y w .payload) m
           → (hash : Mac) → Keyed hash (credentialKey (keysIn ks) (y w)) (y w .credential ++ y w .request)
           → replied ≡ replyPut hash r n (request .operation) k m space
@@ -284,26 +312,26 @@ module _ {s : ScopeFacts} {need : Need} {bad : Bool} {ks t : List ℕ} {l : List
         fits = λ z. changes;
       }
         where
-          there : k ≡ grantContext (s .size) ((S w) .partition) (y w .cred) found place
-          there = k-is ∙ ap (λ (h : Credential). grantContext (s .size) (partitionIn t) h found place) (c-is w)
+          there : k ≡ grantContext (s .size) ((S w) .partition) (y w .cred) (reachedBy (y w)) target place
+          there = k-is ∙ rw (c-is w, request-is w) refl
 
-          fits : ContextFits (operationOf (y w)) (S w) (y w .cred) k
-          fits = subst (ContextFits (operationOf (y w)) (S w) (y w .cred)) (sym there)
-              (context-fits (clear w space first) (w .sound) (s .size) refl m (w .size) named-y placed-y)
+          fits : ContextFits (operationOf (y w)) (S w) (y w .cred) (reachedBy (y w)) k
+          fits = subst (ContextFits (operationOf (y w)) (S w) (y w .cred) (reachedBy (y w))) (sym there)
+              (context-fits (clear w space first) (w .sound) (s .size) refl (w .size) reached-y placed-y)
 
           bytes : BytesFit (operationOf (y w)) (S w) (y w) m
-          bytes = bytes-fit (clear w space first) (w .sound) (s .size) refl m (w .size)
+          bytes = bytes-fit (clear w space first) (w .sound) (s .size) refl (w .size)
 
           long : n ≡ resultLength (y w .req)
           long = p .result ∙ ap resultLength r-is
 
           n-is : n ≡ length (perform (operationOf (y w)) (S w) (y w) m .result)
-          n-is = long ∙ result-long (clear w space first) (w .sound) (s .size) refl m (w .size)
+          n-is = long ∙ result-long (clear w space first) (w .sound) (s .size) refl (w .size)
 
           room : headSize + n + cond (y w .req .level is 2) digestSize 0 ≤ length space
-          room = rw long (reply-room (clear w space first) (w .sound) (s .size) refl m (w .size))
+          room = rw long (reply-room (clear w space first) (w .sound) (s .size) refl (w .size))
 
           changes : ChangeFits (request .operation) (S w) (k .nextversion) (k .newstart)
           changes = subst (λ (o : Operation). ChangeFits o (S w) (k .nextversion) (k .newstart)) (name-is w)
               (subst (λ (h : GrantContext). ChangeFits (operationOf (y w)) (S w) (h .nextversion) (h .newstart)) (sym there)
-              (change-fits (clear w space first) (w .sound) (s .size) refl m (w .size) named-y placed-y))
+              (change-fits (clear w space first) (w .sound) (s .size) refl (w .size) reached-y placed-y))

@@ -8,10 +8,10 @@ use Rattle.lemmas.specs.ListLaws.{map-append}
 use Rattle.lemmas.specs.Lists.{part}
 use Rattle.lemmas.specs.RowTable.{firstRow}
 use Rattle.rules.specs.Demands as rules
-use Rattle.rules.specs.Demands.{Agrees, answer, callFields, bytesOf, State}
+use Rattle.rules.specs.Demands.{Agrees, answer, callFields, State}
 use Rattle.rules.specs.Drive.{format}
 use Rattle.rules.specs.Gate.{Call}
-use Rattle.rules.specs.Ledger.{bareScope, clocked, Ledger, ledger, ledgerScope, ledgerStart}
+use Rattle.rules.specs.Ledger.{bareScope, bytesOf, clocked, Ledger, ledger, ledgerGroup, ledgerScope, ledgerStart}
 use Rattle.rules.specs.Rows.{bounds}
 use Rattle.rules.proofs.Demand as rules·proofs
 use Rattle.drive.specs.Chain.{after, AllOfDemand3, ledgerAfterCalls, Chain, Demand3, CallMade, Granted, DriveState, viewed}
@@ -62,6 +62,7 @@ module _ (M : ℕ) (s : DriveState) (l : Ledger) (calls : List CallMade) (k : Ch
         (granted (before ++ (b ∷ between)) later c (e ∙ regroup before between later b c) gc));
     kept = λ before later c e g.
         subst (λ (b : Ledger). firstRow (bounds (bareScope (ledgerScope M (clocked (c .call .clock) b) (callFields (c .call) .cred)))
+        (ledgerGroup (ledgerScope M (clocked (c .call .clock) b) (callFields (c .call) .cred)) (callFields (c .call) .cred))
         (callFields (c .call))) ≡ 0)
         (booked before (c ∷ later) e)
         (t .kept (callsOf before) (callsOf later) (c .call) (split before later c e) (granted before later c e g));

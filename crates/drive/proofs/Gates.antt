@@ -38,7 +38,7 @@ module _ (d : rules.Drive) (m f : List ℕ) (clock : ℕ) (space : List ℕ) whe
   unfolding rows
   gate-unready h =
       let r : firstRow (rows d m f clock space) ≡ 1 = row-here (line 1 (row1 d m))
-      (frameRows f (fields f) ++ driveRows (driveScope (refresh clock d) (fields f .cred)) (fields f) space) h in
+      (frameRows f (fields f) ++ driveRows (driveScope (refresh clock d) (fields f .cred)) m (fields f) space) h in
       gate-refused d m c (λ z. let k : _≡_ {A = ℕ} 0 1 = sym z ∙ r in omega arith)
       ∙ ap (λ (n : ℕ). refused n (afterRefusal n clock d) m space) r
 
@@ -64,7 +64,7 @@ module _ (d : rules.Drive) (m f : List ℕ) (clock : ℕ) (space : List ℕ) whe
         s = driveScope e (fields f .cred)
 
         later : List Row
-        later = driveRows s (fields f) space
+        later = driveRows s m (fields f) space
 
         r : firstRow (rows d m f clock space) ≡ firstRow later
         r = past-frame d m f clock space ready z
@@ -86,7 +86,7 @@ frame-not-1 f e = eqb-false (frameRow f) 1 (row-isnt 1 (frameRows f (fields f)) 
 -- ---- from row 7 on: row 0 where no row applies, and a refusal leaves the drive
 module _ (d : Scope Object) (m : List ℕ) (x : Fields) (space : List ℕ) where
   abbrev lowest : ℕ
-  lowest = firstRow (driveRows d x space)
+  lowest = firstRow (driveRows d m x space)
 
   pub scope-answer-zero : scopeAnswer d m x space .row ≡ 0 → lowest ≡ 0
   unfolding scopeAnswer
@@ -107,11 +107,11 @@ module _ (d : Scope Object) (m : List ℕ) (x : Fields) (space : List ℕ) where
 
 pub drive-not-1 : (d : Scope Object) (m : List ℕ) (x : Fields) (space : List ℕ) → scopeAnswer d m x space .row ≡ 1 → ⊥
 unfolding scopeAnswer driveRows scopeRows every granted
-drive-not-1 d m x space e = go (firstRow (driveRows d x space) is 0) e
+drive-not-1 d m x space e = go (firstRow (driveRows d m x space) is 0) e
   where
-    go : (b : Bool) → cond b (granted d m x space) (refused (firstRow (driveRows d x space)) d m space) .row ≡ 1 → ⊥
+    go : (b : Bool) → cond b (granted d m x space) (refused (firstRow (driveRows d m x space)) d m space) .row ≡ 1 → ⊥
     go true k = let z : _≡_ {A = ℕ} 0 1 = k in omega arith
-    go false k = eqb-false (firstRow (driveRows d x space)) 1 (row-isnt 1 (driveRows d x space) refl refl) k
+    go false k = eqb-false (firstRow (driveRows d m x space)) 1 (row-isnt 1 (driveRows d m x space) refl refl) k
 
 -- ---- a return of the code that is the rules' answer a meets the promise
 pub meets : (d : Drive) (m : List ℕ) (c : Call) (r : Answer) (after replied : List ℕ) (a : rules·gate.Answer rules.Drive)

@@ -20,6 +20,7 @@ use Rattle.drive.specs.Lent.{
   AllOfLentOnSteps,
   AllOfLentTableMoves,
   AllOfLentGoodReached,
+  AllOfLentThroughGroup,
 }
 use Rattle.drive.proofs.Demand1.{demand1}
 use Rattle.drive.proofs.Demand3.{demand3}
@@ -27,6 +28,7 @@ use Rattle.drive.proofs.ChainStory.{story}
 use Rattle.drive.proofs.ChainRepeats.{only-repeats}
 use Rattle.drive.proofs.ChainSteps.{on-steps, places}
 use Rattle.drive.proofs.ChainTables.{good-reached, table-moves}
+use Rattle.drive.proofs.ChainGroups.{through-group}
 
 lent-chain : (s : DriveState) (calls : List LentCall) → LentChain s calls → Chain s (map madeFrom calls)
 unfolding LentChain Chain
@@ -70,3 +72,6 @@ lent-table-moves s c m = table-moves s (madeFrom c) m
 pub lent-good-reached : AllOfLentGoodReached
 lent-good-reached medium F master key d zeroed calls made =
     good-reached medium F master key (formattedWith 0 d) zeroed (map madeFrom calls) (lent-made medium F master key d zeroed calls made)
+
+pub lent-through-group : AllOfLentThroughGroup
+lent-through-group s c m = through-group s (madeFrom c) m

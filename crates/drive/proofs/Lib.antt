@@ -1,5 +1,6 @@
 -- Laws of the rules that the code's proofs use; then the customer's demands 1 and 3, the customer's story, what row 12
--- answers, where new extents start and which operation tables are reached, over the code's own contracts.
+-- answers, where new extents start, which operation tables are reached and what is granted through a group, over the code's own
+-- contracts.
 mod Memories
 mod Tables
 pub mod Frames
@@ -16,4 +17,5 @@ pub mod ChainStory
 pub mod ChainRepeats
 pub mod ChainSteps
 pub mod ChainTables
+pub mod ChainGroups
 pub mod LentCalls

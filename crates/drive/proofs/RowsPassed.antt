@@ -14,7 +14,7 @@ use Rattle.wire.specs.Parse.{frameRow}
 -- ---- the gate's table, where row 1 does not apply
 module _ (d : Drive) (m f : List ℕ) (clock : ℕ) (space : List ℕ) (ready : row1 d m ≡ false) where
   abbrev later : List Row
-  later = driveRows (driveScope (refresh clock d) (fields f .cred)) (fields f) space
+  later = driveRows (driveScope (refresh clock d) (fields f .cred)) m (fields f) space
 
   skip : firstRow (rows d m f clock space) ≡ firstRow (frameRows f (fields f) ++ later)
   unfolding rows

@@ -249,7 +249,7 @@ module _ (o : Opened) where
 
     -- a grant is put back, and its nonce entered
     module _ (grant : out .row ≡ 0) where
-      no-row : firstRow (driveRows scope x space) ≡ 0
+      no-row : firstRow (driveRows scope m x space) ≡ 0
       no-row = scope-answer-zero scope m x space (sym (given .row) ∙ grant)
 
       -- there is room for it

@@ -6,7 +6,7 @@ use mathlib.Core.Path.{_≡_}
 use mathlib.Core.Bool.{Bool, false, true, cond}
 use mathlib.Core.Option.{Option, some, Option·getD}
 use mathlib.Core.List.{List}
-use Prim.Native.Nat.{ℕ, _*_, _≤_}
+use Prim.Native.Nat.{ℕ, _*_, _+_, _≤_}
 use lib.ListN.{length}
 use Rattle.lemmas.specs.Tests.{_is_}
 use Rattle.lemmas.specs.RowTable.{firstRow}
@@ -15,8 +15,9 @@ use Rattle.rules.specs.declared.Entry.{Entry}
 use Rattle.rules.specs.declared.Object.{Object}
 use Rattle.rules.specs.declared.Need.{Need}
 use Rattle.rules.specs.declared.Operation.{Operation}
+use Rattle.rules.specs.declared.PartStarts.{PartStarts}
 use Rattle.rules.specs.declared.Request.{Request}
-use Rattle.rules.specs.Frame.{Fields, fields}
+use Rattle.rules.specs.Frame.{digestSize, Fields, fields, partStarts}
 use Rattle.rules.specs.Drive as rules
 use Rattle.rules.specs.Drive.{quarter, largestMedium, mostEntries, soundPartition}
 use Rattle.rules.specs.Scope.{Scope}
@@ -50,21 +51,28 @@ scopeFrom s ks t l = record {
 -- the answer to a frame that none of rows 1 to 6 refuses, of its scope, which has the new mark and no outlived entry
 unfoldable pub scopeAnswer : Scope Object → List ℕ → Fields → List ℕ → Answer (Scope Object)
 scopeAnswer s m x space =
-    let row = firstRow (driveRows s x space) in
+    let row = firstRow (driveRows s m x space) in
     cond (row is 0) (granted s m x space) (refused row s m space)
 
--- where a grant works, of a medium of so many bytes: `found` is the object that the credential names, `place` a new
--- extent's
-unfoldable pub grantContext : ℕ → rules.Partition Object → Credential → Lookup → Option ℕ → GrantContext
-grantContext size p c found place = record {
+-- where a grant works, of a medium of so many bytes: n is the number of the object that the frame reaches, `target` what it
+-- names, `place` a new extent's
+unfoldable pub grantContext : ℕ → rules.Partition Object → Credential → ℕ → Lookup → Option ℕ → GrantContext
+grantContext size p c n target place = record {
   quarterstart = c .partition * quarter size;
-  start = found .object .start;
-  size = found .object .size;
+  start = target .object .start;
+  size = target .object .size;
   newstart = Option·getD place 0;
-  looksize = cond (c .object is 0) (quarter size) (found .object .size);
-  version = presentVersionIn (p .version) (c .object) found;
+  looksize = cond (n is 0) (quarter size) (target .object .size);
+  version = presentVersionIn (p .version) n target;
   nextversion = nextVersionOf (p .last);
 }
+
+-- these are where the parts of the frame f start, and it is as long as its parts together
+pub record StartsHold (f : List ℕ) (starts : PartStarts) : Type 0 where
+  pub places : starts ≡ partStarts f
+  pub request : starts .request ≤ starts .payload
+  pub payload : starts .payload ≤ starts .digest
+  pub long : length f ≡ starts .digest + digestSize
 
 -- the parse of the frame f gave these fields
 pub record ParsedTo (f : List ℕ) (c : Credential) (request : ParsedRequest) : Type 0 where

@@ -8,11 +8,11 @@ use Prim.Native.Nat.{ℕ}
 use lib.ListN.{length}
 use Rattle.lemmas.specs.Lists.{part}
 use Rattle.lemmas.specs.RowTable.{firstRow}
-use Rattle.rules.specs.Demands.{Agrees, callFields, bytesOf, callOperation, MarkAndOutlived, nonce, State}
+use Rattle.rules.specs.Demands.{Agrees, callFields, callOperation, MarkAndOutlived, nonce, State}
 use Rattle.rules.specs.Drive.{refresh}
 use Rattle.rules.specs.declared.Operation.the-variants.{Read}
 use Rattle.rules.specs.Gate.{Call}
-use Rattle.rules.specs.Ledger.{bareScope, clocked, Fed, Ledger, ledger, ledgerScope, ledgerStart}
+use Rattle.rules.specs.Ledger.{bareScope, bytesOf, clocked, Fed, Ledger, ledger, ledgerGroup, ledgerScope, ledgerStart}
 use Rattle.rules.specs.Operations.{headSize}
 use Rattle.rules.specs.Rows.{bounds, gateRows}
 use Rattle.drive.specs.declared.Drive.{Drive}
@@ -112,14 +112,15 @@ pub record Demand3 (M : ℕ) (s : DriveState) (l : Ledger) (calls : List CallMad
       → nonce (b .call) ≡ nonce (c .call) → ⊥
   -- "Each grant is within its credential's rights, expiry and .. range. It is under the key and .. the version
   -- that the format or earlier grants put there": rows 8–10 and 13–17, by the ledger before the call with the mark
-  -- that this call sets. Change 5 of document 02: "a grant keeps to the table that earlier grants loaded": row 7 as well
+  -- that this call sets. Change 5 of document 02: "a grant keeps to the table that earlier grants loaded": row 7 as well. Change 6:
+  -- "Demand 3 judges rows 32 to 34 as well", by the ledger's own bytes of the group
   pub kept : (before later : List CallMade) (c : CallMade)
       → calls ≡ before ++ (c ∷ later)
       → Granted c
-      → firstRow (bounds (bareScope (ledgerScope M (clocked (c .call .clock) (ledgerAfterCalls M l before)) (callFields (c .call) .cred)))
-      (callFields (c .call))) ≡ 0
+      → let t = ledgerScope M (clocked (c .call .clock) (ledgerAfterCalls M l before)) (callFields (c .call) .cred) in
+      firstRow (bounds (bareScope t) (ledgerGroup t (callFields (c .call) .cred)) (callFields (c .call))) ≡ 0
   -- "Each granted read shows, for every byte, exactly the last granted write to it since that object's creation, or
-  -- zero": after the reply's head, the bytes from A up to A + B of the ledger's object
+  -- zero": after the reply's head, the bytes from A up to A + B of the ledger's object, under a group credential of the member
   pub shown : (before later : List CallMade) (c : CallMade) (A B : ℕ)
       → calls ≡ before ++ (c ∷ later)
       → Granted c

@@ -21,6 +21,7 @@ use Rattle.drive.specs.ChainStory.{Story}
 use Rattle.drive.specs.ChainRepeats.{OnlyRepeats}
 use Rattle.drive.specs.ChainSteps.{OnSteps, Places}
 use Rattle.drive.specs.ChainTables.{GoodReached, TableMoves}
+use Rattle.drive.specs.ChainGroups.{ThroughGroup}
 
 -- ---- parts
 -- the record that parts make: M, the mark, keys, tables, and the memories' lengths, entries and times
@@ -119,6 +120,9 @@ AllOfLentOnSteps =
 
 abbrev pub AllOfLentTableMoves : Type 0
 AllOfLentTableMoves = (s : DriveState) (c : LentCall) → LentMet s c → TableMoves s (madeFrom c)
+
+abbrev pub AllOfLentThroughGroup : Type 0
+AllOfLentThroughGroup = (s : DriveState) (c : LentCall) → LentMet s c → ThroughGroup s (madeFrom c)
 
 abbrev pub AllOfLentGoodReached : Type 0
 AllOfLentGoodReached =

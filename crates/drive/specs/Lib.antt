@@ -8,4 +8,5 @@ pub mod ChainStory
 pub mod ChainRepeats
 pub mod ChainSteps
 pub mod ChainTables
+pub mod ChainGroups
 pub mod Lent

@@ -3,7 +3,7 @@
 // tests/model/src/bin/library.rs has the layouts of both. A record that does not fit the buffers, or is none, ends the output
 // with the line `cut`.
 //
-// `stdin` is the trace that `target/model/library 1162 20 stdin stdout` writes (tests/model/build makes that program), and
+// `stdin` is the trace that `target/model/library 59 20 stdin stdout` writes (tests/model/build makes that program), and
 // `stdout` is what it expects.
 ghost use mathlib.Core.Path.{_≡_};
 ghost use lib.ListN.{length};

@@ -1,6 +1,6 @@
-// Rows 10 to 23, with row 31 after 21, judged of one partition's table and of what is known of the rest that a frame can see.
-// Every test is made whatever the others say; the first row that applies is the answer. And what a frame's operation needs, by
-// which rows 7 and 13 go.
+// Rows 10 to 23, with rows 32 to 34 after 15 and 31 after 21, judged of one partition's table and of what is known of the rest that
+// a frame can see. Every test is made whatever the others say; the first row that applies is the answer. And what a frame's operation
+// needs, by which rows 7 and 13 go.
 ghost use mathlib.Core.Path.{_≡_};
 ghost use mathlib.Core.Bool.{_&&_};
 ghost use mathlib.Core.List.{List};
@@ -9,15 +9,17 @@ ghost use lib.ListN.{getD};
 ghost use Rattle.lemmas.specs.RowTable.{firstRow};
 ghost use Rattle.lemmas.specs.Tests.{_under_};
 ghost use Rattle.lemmas.specs.Lists.{missing};
+ghost use Rattle.rules.specs.declared.Credential.{Credential};
 ghost use Rattle.rules.specs.declared.Object.{Object};
-ghost use Rattle.rules.specs.Frame.{entry};
+ghost use Rattle.rules.specs.Frame.{entry, isGroupRequest, targetOf};
 ghost use Rattle.rules.specs.Scope.{Scope};
 ghost use Rattle.rules.specs.Needs.{needUnder};
 ghost use Rattle.rules.specs.Rows.{untimely, isTransfer, givesVersion, outOfRange, row31, scopeRows};
-ghost use Rattle.state.specs.Table.{needsIn, objectsIn, partitionIn};
+ghost use Rattle.state.specs.Table.{lookupIn, needsIn, objectsIn, partitionIn};
 ghost use Rattle.placing.specs.Placing.{placeOption};
 ghost use Rattle.wire.specs.Parse.{numbersOf};
-ghost use Rattle.judge.specs.Judge.{placementFor, presentVersionIn, timeRow, objectRow, roomRow, FactsHold};
+ghost use Rattle.judge.specs.Judge.{placementFor, presentVersionIn, listRow, timeRow, objectRow, roomRow, FactsHold};
+use fields::GROUP_MAGIC;
 use lemmas::pick;
 use placing::Place;
 use rules::Credential;
@@ -33,6 +35,7 @@ use state::LEASTS;
 use state::Lookup;
 use state::MASKS;
 use wire::ParsedRequest;
+use wire::Reach;
 
 // What a frame can see of a drive beside the keys and its own partition's table: M, the mark, and of its own replay memory,
 // from which outlived entries are gone, whether that holds the frame's nonce, and how many entries.
@@ -143,6 +146,36 @@ pub fn is_bad_load(r: Request, bytes: &[u8]) -> bool
     !needs::is_good(bytes)
 }
 
+// Rows 32 and 33, of the bytes of the object that the credential names; 0 where neither applies, so where no group is asked for.
+pub fn list_row(group: &[u8], request: ParsedRequest) -> u32
+    ensures { λ row. ⌜ row ≡ listRow (now (group .entry)) (numbersOf request) ⌝ }
+{
+    let reach = request.reach;
+    match reach {
+        Reach::Own => 0,
+        Reach::Member(number) => group::group_row(group, number),
+    }
+}
+
+// The object that a request reads, writes or looks at: a group's member, or else `found`, the one that the credential names.
+pub fn target_in(table: &[u32], found: Lookup, request: ParsedRequest) -> Lookup
+    ensures { λ t. ⌜ ((c : Credential) → found ≡ lookupIn (objectsIn (now (table .entry))) (c .object)
+        → t ≡ lookupIn (objectsIn (now (table .entry))) (targetOf c (numbersOf request))) ⌝ }
+{
+    let reach = request.reach;
+    match reach {
+        Reach::Own => found,
+        Reach::Member(number) => state::look_up(table, number),
+    }
+}
+
+// Whether a request has a member.
+fn is_group(r: Request) -> bool
+    ensures { λ x. ⌜ x ≡ isGroupRequest r ⌝ }
+{
+    r.magic == GROUP_MAGIC
+}
+
 // Whether an operation reads or writes an object's bytes.
 fn is_transfer(r: Request) -> bool
     ensures { λ x. ⌜ x ≡ isTransfer r ⌝ }
@@ -164,15 +197,26 @@ fn is_out_of_range(first: u32, end: u32, from: u32, count: u32) -> bool
     !((first <= from) & (from as u64 + count as u64 <= end as u64))
 }
 
-// Rows 14 to 17: object, version, range, size.
-fn object_row(c: Credential, r: Request, found: Lookup, version: u32, rest: u32) -> u32
-    ensures { λ x. ⌜ x ≡ objectRow c r found version rest ⌝ }
+// Rows 14 and 15, 32 to 34, 16 and 17: object, version, list, member, range, size. `listed` is what rows 32 and 33 say, `target` the
+// object that the frame reaches.
+fn object_row(
+    c: Credential,
+    r: Request,
+    found: Lookup,
+    version: u32,
+    listed: u32,
+    target: Lookup,
+    rest: u32,
+) -> u32
+    ensures { λ x. ⌜ x ≡ objectRow c r found version listed target rest ⌝ }
 {
-    let o = found.object;
+    let o = target.object;
     let transfer = is_transfer(r);
     let over = (o.size as u64) < r.A as u64 + r.B as u64;
     let x = pick(transfer & over, 17, rest);
     let x = pick(transfer & is_out_of_range(c.first, c.end, r.A, r.B), 16, x);
+    let x = pick(is_group(r) & target.missing, 34, x);
+    let x = pick(listed != 0, listed, x);
     let x = pick((r.operation < 7) & (c.version != version), 15, x);
     pick((c.object != 0) & found.missing, 14, x)
 }
@@ -206,9 +250,9 @@ fn room_row(
     pick(creates & !taken.missing, 18, x)
 }
 
-// The first of rows 10 to 23, with 31 after 21, that applies, or 0. `need` is what the operation needs, `bad` row 31's test, `r`
-// the request's numbers, `found` the object that the credential names, `place` a new extent's, `length` the reply's length,
-// `space` the room lent for it.
+// The first of rows 10 to 23, with 32 to 34 after 15 and 31 after 21, that applies, or 0. `need` is what the operation needs, `bad`
+// row 31's test, `r` the request's numbers, `found` the object that the credential names, `listed` what rows 32 and 33 say of its bytes,
+// `target` the object that the frame reaches, `place` a new extent's, `length` the reply's length, `space` the room lent for it.
 pub fn judge(
     facts: ScopeFacts,
     table: &[u32],
@@ -217,17 +261,19 @@ pub fn judge(
     bad: bool,
     r: Request,
     found: Lookup,
+    listed: u32,
+    target: Lookup,
     place: Place,
     length: u64,
     space: usize,
 ) -> u32
-    ensures { λ x. ⌜ ((s : Scope Object) (payload : List ℕ)
-        → FactsHold s facts (partitionIn (now (table .entry))) c need bad r payload found (placeOption place) length
-        → x ≡ firstRow (scopeRows s c r payload space)) ⌝ }
+    ensures { λ x. ⌜ ((s : Scope Object) (payload group : List ℕ)
+        → FactsHold s facts (partitionIn (now (table .entry))) c need bad r payload group listed found target (placeOption place) length
+        → x ≡ firstRow (scopeRows s c r payload group space)) ⌝ }
 {
     let version = number_at(table, 0);
     let present = present_version(version, c.object, found);
     let x = room_row(table, facts.held, bad, r, place, length, space);
-    let x = object_row(c, r, found, present, x);
+    let x = object_row(c, r, found, present, listed, target, x);
     time_row(facts, need, c, r, x)
 }

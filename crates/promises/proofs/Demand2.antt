@@ -14,7 +14,7 @@ use Rattle.rules.specs.Drive.{refresh}
 use Rattle.rules.specs.Frame.{credentialAt, credentialBytes, CredentialFits, credentialSize, fields, requestAt}
 use Rattle.rules.specs.Gate.{gate}
 use Rattle.rules.specs.Operations.{credentialKey, resultLength}
-use Rattle.rules.specs.Rows.{row1, row7, row8, row9, scopeRows}
+use Rattle.rules.specs.Rows.{groupBytes, row1, row7, row8, row9, scopeRows}
 use Rattle.rules.specs.Scope.{driveScope}
 use Rattle.rules.proofs.Demand2 as rules·proofs
 use Rattle.drive.specs.Chain.{CallMade, DriveState}
@@ -88,7 +88,8 @@ module _ (i : IssueMade) (m : IssueKept i) (z : i .answer .row ≡ 0) (fit : Cre
           ≡ firstRow (line 1 (row1 (view (s .drive)) (s .medium))
           ∷ line 7 (row7 (driveScope (refresh (c .call .clock) (view (s .drive))) (fields f .cred)) (fields f .cred) (fields f .req))
           ∷ scopeRows (driveScope (refresh (c .call .clock) (view (s .drive))) (fields f .cred)) (fields f .cred) (fields f .req)
-          (fields f .payload) (length (c .call .space))))
+          (fields f .payload) (groupBytes (driveScope (refresh (c .call .clock) (view (s .drive))) (fields f .cred)) (fields f .cred) (s .medium))
+          (length (c .call .space))))
           (sym frame-is) (authentic .row (view (s .drive)) (s .medium) (c .call) (h ∙ frame-is) e);
     }
 

@@ -12,10 +12,10 @@ use Rattle.digest.specs.Hmac.{hmac}
 use Rattle.rules.specs.declared.Object.{Object}
 use Rattle.rules.specs.declared.Operation.the-variants.{Read}
 use Rattle.rules.specs.Client.{checkRows, frameOf}
-use Rattle.rules.specs.Demands.{bytesOf, callFields, callOperation}
+use Rattle.rules.specs.Demands.{callFields, callOperation}
 use Rattle.rules.specs.Drive.{Keys, Tables}
-use Rattle.rules.specs.Frame.{covered, Fields, fields, operation, requestAt}
-use Rattle.rules.specs.Ledger.{Ledger, ledgerStart, tablesOf}
+use Rattle.rules.specs.Frame.{covered, Fields, fields, operation, requestAt, targetOf}
+use Rattle.rules.specs.Ledger.{bytesOf, Ledger, ledgerStart, tablesOf}
 use Rattle.rules.specs.Operations.{credentialKey, headSize, resultLength}
 use Rattle.rules.proofs.Clear.{asks-for}
 use Rattle.drive.specs.declared.Formatted.{Formatted}
@@ -113,11 +113,15 @@ module _
         reply = h .reply;
       })
 
-      -- it asks for a read of B bytes
+      -- its request is the solver's, which asks for a read of B bytes
+      request-is : callFields (c .call) .req ≡ requestAt (b .request) 0
+      request-is = ap Fields.req (ap fields (h .frame) ∙ read-as-built b (h .build) (h .built) .fields)
+
       asked : callOperation (c .call) ≡ Read A B
-      asked =
-          ap (λ (x : Fields). operation (x .req)) (ap fields (h .frame) ∙ read-as-built b (h .build) (h .built) .fields)
-          ∙ h .request
+      asked = ap operation request-is ∙ h .request
+
+      credential-is : callFields (c .call) .cred ≡ i .credential
+      credential-is = ap (λ (f : List ℕ). fields f .cred) frame-is ∙ issues i (h .issue) (h .issued) (h .fits) .cred rest
 
       long : resultLength (requestAt (k .request) 0) ≡ B
       long =
@@ -139,7 +143,8 @@ module _
 
       pub believed : Believed l i c k A B
       believed = record {
-        object = ap (λ (f : List ℕ). fields f .cred) frame-is ∙ issues i (h .issue) (h .issued) (h .fits) .cred rest;
+        object = credential-is;
+        log = (λ j. targetOf (credential-is j) (request-is j)) ∙ ap (λ (q : List ℕ). targetOf (i .credential) (requestAt q 0)) (sym (h .sameRequest));
         row = checked .row;
         bytes = h .check .result ∙ found-result (k .credential) (k .request) (k .key) (now (k .reply)) no-row
             ∙ ap (part (now (k .reply)) headSize) long ∙ shape;

@@ -15,11 +15,11 @@ use Rattle.rules.specs.declared.Object.{Object}
 use Rattle.rules.specs.Client as rules
 use Rattle.rules.specs.Drive as rules·drive
 use Rattle.rules.specs.Drive.{Keys, refresh}
-use Rattle.rules.specs.Frame.{covered, credentialAt, CredentialFits, fields, operationOf, requestAt}
+use Rattle.rules.specs.Frame.{covered, credentialAt, CredentialFits, credentialLength, fields, operationOf, requestAt, startsBehind}
 use Rattle.rules.specs.Gate as rules·gate
 use Rattle.rules.specs.Operations.{credentialKey, headSize, keyIn, perform, resultLength}
 use Rattle.rules.specs.Needs.{defaultNeed}
-use Rattle.rules.specs.Rows.{lowLevel, row1, row7, row8, row9, rows, scopeRows}
+use Rattle.rules.specs.Rows.{groupBytes, lowLevel, row1, row7, row8, row9, rows, scopeRows}
 use Rattle.rules.specs.Scope.{driveScope, Scope}
 use Rattle.wire.specs.Parse.{fieldsOf, frameAnswer}
 use Rattle.drive.specs.Chain.{CallMade, CallMet, DriveState, Granted}
@@ -75,7 +75,9 @@ pub record Passes (i : IssueMade) (b : BuildMade) : Type 0 where
       ∷ line 7 (row7 (driveScope (refresh (c .call .clock) (view (s .drive))) (fields (builtBytes b) .cred))
       (fields (builtBytes b) .cred) (fields (builtBytes b) .req))
       ∷ scopeRows (driveScope (refresh (c .call .clock) (view (s .drive))) (fields (builtBytes b) .cred))
-      (fields (builtBytes b) .cred) (fields (builtBytes b) .req) (fields (builtBytes b) .payload) (length (c .call .space)))
+      (fields (builtBytes b) .cred) (fields (builtBytes b) .req) (fields (builtBytes b) .payload)
+      (groupBytes (driveScope (refresh (c .call .clock) (view (s .drive))) (fields (builtBytes b) .cred)) (fields (builtBytes b) .cred) (s .medium))
+      (length (c .call .space)))
 
 -- ---- "What the builder writes, the gate reads as the same fields."
 pub record ReadAsBuilt (b : BuildMade) : Type 0 where
@@ -87,8 +89,10 @@ pub record ReadAsBuilt (b : BuildMade) : Type 0 where
     payload = b .payload;
     digest = hmac (b .key) (covered (requestAt (b .request) 0 .level) (b .credential) (b .request) (b .payload));
   }
-  -- none of rows 2 to 6 refuses it: the gate's parse answers with these fields;
+  -- none of rows 2 to 6 refuses it: the gate's parse answers with these fields, and with the starts of the parts as the builder put
+  -- them one behind the other;
   pub parsed : frameAnswer (builtBytes b) ≡ fieldsOf (credentialAt (b .credential) 0) (requestAt (b .request) 0)
+      (startsBehind (credentialLength (credentialAt (b .credential) 0)) (requestAt (b .request) 0))
   -- nor row 7, where the operation needs what document 01's rule says
   pub level : lowLevel (defaultNeed (requestAt (b .request) 0 .operation)) (credentialAt (b .credential) 0)
       (requestAt (b .request) 0) ≡ false

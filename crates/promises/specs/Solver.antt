@@ -9,9 +9,9 @@ use lib.ListN.{length}
 use denote.Ref.{now, ptr}
 use Rattle.lemmas.specs.Lists.{part}
 use Rattle.rules.specs.declared.Operation.the-variants.{Read}
-use Rattle.rules.specs.Demands.{bytesOf, callFields}
-use Rattle.rules.specs.Frame.{CredentialFits, operation, requestAt}
-use Rattle.rules.specs.Ledger.{Ledger, ledgerStart}
+use Rattle.rules.specs.Demands.{callFields}
+use Rattle.rules.specs.Frame.{CredentialFits, operation, requestAt, targetOf}
+use Rattle.rules.specs.Ledger.{bytesOf, Ledger, ledgerStart}
 use Rattle.rules.specs.Operations.{headSize}
 use Rattle.drive.specs.declared.Drive.{Drive}
 use Rattle.drive.specs.declared.Formatted.{Formatted}
@@ -56,8 +56,10 @@ pub record ReadMade (l : Ledger) (i : IssueMade) (b : BuildMade) (c : CallMade) 
 
 -- ---- what the check then returns: row 0 and exactly "the bytes from A up to A + B of the ledger's object"
 pub record Believed (l : Ledger) (i : IssueMade) (c : CallMade) (k : CheckMade) (A B : ℕ) : Type 0 where
-  -- the object is the one that the issued credential names
+  -- the object is the one that the issued credential names, and the log the one that the solver asked for: that object, or under a
+  -- group credential the member that its request names
   pub object : callFields (c .call) .cred ≡ i .credential
+  pub log : targetOf (callFields (c .call) .cred) (callFields (c .call) .req) ≡ targetOf (i .credential) (requestAt (k .request) 0)
   pub row : k .row ≡ 0
   pub bytes : now (k .part) ≡ part (bytesOf l (callFields (c .call))) A B
   -- they are B bytes, the part of the reply after its head

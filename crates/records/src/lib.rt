@@ -1,7 +1,7 @@
 // The two records of a frame as C structs, and the results that are numbers: encoded and decoded.
 ghost use mathlib.Core.Path.{_≡_};
-ghost use Rattle.rules.specs.Frame.{credentialSize, requestSize};
-ghost use Rattle.records.specs.Coding.{credentialFrom, credentialFields, requestFrom, requestFields, noCredential, noRequest, encodeRow, credentialEncoded, requestEncoded, credentialDecoded, requestDecoded, lookDecoded, versionDecoded};
+ghost use Rattle.rules.specs.Frame.{credentialSize, groupRequestSize, requestSize};
+ghost use Rattle.records.specs.Coding.{credentialFrom, credentialFields, requestWith, requestFrom, groupRequestFrom, requestFields, noCredential, noRequest, encodeRow, credentialEncoded, requestEncoded, groupRequestEncoded, credentialDecoded, requestDecoded, groupRequestDecoded, lookDecoded, versionDecoded};
 use lemmas::pick;
 
 // The rows of these calls: bytes that are no record, or no such result; a space that is too short.
@@ -31,7 +31,7 @@ pub struct CredentialFields {
     pub least: u8,
 }
 
-// A request without its mark; n is its data's length. The order is the header's.
+// A request without its mark, and without the member of a group's; n is its data's length. The order is the header's.
 #[repr(C)]
 pub struct RequestFields {
     pub time: u64,
@@ -56,6 +56,14 @@ pub struct RequestDecoded {
     pub fields: RequestFields,
 }
 
+// A group's request as it was read, its member too.
+#[repr(C)]
+pub struct GroupRequestDecoded {
+    pub row: u64,
+    pub fields: RequestFields,
+    pub member: u32,
+}
+
 // A look's result as it was read, and that of a raise or a create: row 0 and the numbers; or row 28 and zeros.
 #[repr(C)]
 pub struct LookDecoded {
@@ -75,7 +83,7 @@ pub fn credential_from(c: CredentialFields) -> rules::Credential
     ensures { λ r. ⌜ r ≡ credentialFrom c ⌝ }
 {
     rules::Credential {
-        magic: record_rows::CREDENTIAL_MAGIC,
+        magic: fields::CREDENTIAL_MAGIC,
         partition: c.partition,
         slot: c.slot,
         object: c.object,
@@ -90,12 +98,12 @@ pub fn credential_from(c: CredentialFields) -> rules::Credential
     }
 }
 
-// The request that has those fields.
-pub fn request_from(r: RequestFields) -> rules::Request
-    ensures { λ q. ⌜ q ≡ requestFrom r ⌝ }
+// The request of a mark that has those fields and that member.
+fn request_with(magic: u16, r: RequestFields, member: u32) -> rules::Request
+    ensures { λ q. ⌜ q ≡ requestWith magic r member ⌝ }
 {
     rules::Request {
-        magic: record_rows::REQUEST_MAGIC,
+        magic,
         operation: r.operation,
         level: r.level,
         time: r.time,
@@ -103,7 +111,21 @@ pub fn request_from(r: RequestFields) -> rules::Request
         A: r.a,
         B: r.b,
         n: r.n,
+        member,
     }
+}
+
+// The request that has those fields; and the group's.
+pub fn request_from(r: RequestFields) -> rules::Request
+    ensures { λ q. ⌜ q ≡ requestFrom r ⌝ }
+{
+    request_with(fields::REQUEST_MAGIC, r, 0)
+}
+
+pub fn group_request_from(r: RequestFields, member: u32) -> rules::Request
+    ensures { λ q. ⌜ q ≡ groupRequestFrom r member ⌝ }
+{
+    request_with(fields::GROUP_MAGIC, r, member)
 }
 
 // The fields that a credential has, and those that a request has.
@@ -188,13 +210,22 @@ pub fn encode_request(r: RequestFields, space: &mut [u8]) -> u64
     row as u64
 }
 
+// Writes the bytes of a group's request in the same way.
+pub fn encode_group_request(r: RequestFields, member: u32, space: &mut [u8]) -> u64
+    ensures { λ row. ⌜ (row ≡ encodeRow groupRequestSize (now (space .entry))) × (now (space .exit) ≡ groupRequestEncoded (now (space .entry)) r member) ⌝ }
+{
+    let row = pick(space.len() < fields::GROUP_REQUEST_SIZE, SHORT_SPACE, 0);
+    request_bytes::put_request(group_request_from(r, member), space);
+    row as u64
+}
+
 // The fields of a credential's 36 bytes; row 28 for other lengths, another mark, and a zero byte that is not 0.
 pub fn decode_credential(bytes: &[u8]) -> CredentialDecoded
     ensures { λ r. ⌜ r ≡ credentialDecoded (now (bytes .entry)) ⌝ }
 {
     let c = fields::credential_in(bytes, 0);
     if (bytes.len() != fields::CREDENTIAL_SIZE)
-        | ((c.magic != record_rows::CREDENTIAL_MAGIC) | (c.zero != 0))
+        | ((c.magic != fields::CREDENTIAL_MAGIC) | (c.zero != 0))
     {
         return CredentialDecoded {
             row: BAD_RECORD,
@@ -212,7 +243,7 @@ pub fn decode_request(bytes: &[u8]) -> RequestDecoded
     ensures { λ r. ⌜ r ≡ requestDecoded (now (bytes .entry)) ⌝ }
 {
     let q = fields::request_in(bytes, 0);
-    if (bytes.len() != fields::REQUEST_SIZE) | (q.magic != record_rows::REQUEST_MAGIC) {
+    if (bytes.len() != fields::REQUEST_SIZE) | (q.magic != fields::REQUEST_MAGIC) {
         return RequestDecoded {
             row: BAD_RECORD,
             fields: no_request(),
@@ -221,6 +252,25 @@ pub fn decode_request(bytes: &[u8]) -> RequestDecoded
     RequestDecoded {
         row: 0,
         fields: request_fields(q),
+    }
+}
+
+// The fields and the member of the 32 bytes of a group's request; row 28 for other lengths, and for another mark.
+pub fn decode_group_request(bytes: &[u8]) -> GroupRequestDecoded
+    ensures { λ r. ⌜ r ≡ groupRequestDecoded (now (bytes .entry)) ⌝ }
+{
+    let q = fields::request_in(bytes, 0);
+    if (bytes.len() != fields::GROUP_REQUEST_SIZE) | (q.magic != fields::GROUP_MAGIC) {
+        return GroupRequestDecoded {
+            row: BAD_RECORD,
+            fields: no_request(),
+            member: 0,
+        };
+    }
+    GroupRequestDecoded {
+        row: 0,
+        fields: request_fields(q),
+        member: q.member,
     }
 }
 

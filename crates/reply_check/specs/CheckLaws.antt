@@ -12,6 +12,7 @@ use Rattle.lemmas.specs.Lists.{every, part}
 use Rattle.lemmas.specs.Parts.{length-part}
 use Rattle.lemmas.specs.RowTable.{applies, firstRow, none-applies}
 use Rattle.lemmas.specs.Tests.{_is_, _isnt_, _over_, or-intro-r, or-l, or-r}
+use Rattle.rules.specs.declared.Credential.{Credential}
 use Rattle.rules.specs.declared.Request.{Request}
 use Rattle.rules.specs.Client.{badRecords, check, checkRows, mostResult, row26, row30}
 use Rattle.rules.specs.Frame.{digestSize, keySize, requestAt}
@@ -19,7 +20,7 @@ use Rattle.rules.specs.Operations.{headSize, replyLength, resultLength}
 use Rattle.fields.specs.Records.{requestIn}
 use Rattle.reply_check.specs.Met.{CheckMet, Slice, placeAfter}
 use Rattle.reply_check.specs.Shape.{otherHead, wrongDigest, wrongReply, wrongShape}
-use Rattle.record_rows.specs.BadRecords.{bad-either, request-is-read}
+use Rattle.record_rows.specs.BadRecords.{read-either, request-is-read}
 
 -- ---- rows 26 and 28 first, of a request read as r; then row 30
 abbrev row28 : List ℕ → List ℕ → Request → Bool
@@ -41,7 +42,8 @@ early-clear false false e = (refl, refl)
 
 module _ (a b k s : List ℕ) where
   either-row : row28 a b (requestIn b 0) ≡ row28 a b (requestAt b 0)
-  either-row = bad-either a b (λ (r : Request). resultLength r over mostResult)
+  either-row =
+      read-either a b (λ (bad : Bool) (c : Credential) (r : Request). bad || resultLength r over mostResult) (λ c d q r. refl)
 
   pub check-early : (row : ℕ) → row ≡ earlyRow a b (length k) (requestIn b 0) → (row ≡ 0 → ⊥)
       → row ≡ firstRow (checkRows a b k s)

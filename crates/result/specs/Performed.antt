@@ -18,7 +18,7 @@ use Rattle.rules.specs.Frame.{Fields}
 use Rattle.rules.specs.Scope.{Scope}
 use Rattle.rules.specs.Operations.{extentStart, presentVersion, sizeOf, nextVersion, perform, headSize}
 use Rattle.effect.specs.declared.GrantContext.{GrantContext}
-use Rattle.effect.specs.Performed.{ContextFits, BytesFit}
+use Rattle.effect.specs.Performed.{ContextFits, BytesFit, reachedBy}
 use Rattle.result.specs.Result.{resultPut}
 
 -- a number of four bytes that fits
@@ -27,25 +27,25 @@ put-number : (r : List ℕ) (i v : ℕ) → i + length (bigEndian 4 v) ≤ lengt
 put-number r i v h = rw (le-leb (i + 4) (length r) (omega (arith, length-bigEndian 4 v))) refl
 
 pub result-is : (o : Operation) (s : Scope Object) (x : Fields) (m : List ℕ) (k : GrantContext)
-    → ContextFits o s (x .cred) k → BytesFit o s x m → (r : List ℕ)
+    → ContextFits o s (x .cred) (reachedBy x) k → BytesFit o s x m → (r : List ℕ)
     → headSize + length (perform o s x m .result) ≤ length r
     → resultPut o k m r ≡ splice r headSize (perform o s x m .result)
 unfolding perform
 result-is (Read a b) s x m k w fit r h =
     let i = fit .read a b refl in
-    let n = length-part m (extentStart s (x .cred) + a) b i in
+    let n = length-part m (extentStart s (x .cred) (reachedBy x) + a) b i in
     let j = le-leb (headSize + b) (length r) (omega arith) in
-    rw (w .start, le-leb (extentStart s (x .cred) + a + b) (length m) i, j) refl
+    rw (w .start, le-leb (extentStart s (x .cred) (reachedBy x) + a + b) (length m) i, j) refl
 result-is (Write a b) s x m k w fit r h = sym (splice-none r headSize)
 result-is Look s x m k w fit r h =
-    let a : List ℕ = bigEndian 4 (sizeOf s (x .cred)) in
-    let b : List ℕ = bigEndian 4 (presentVersion s (x .cred)) in
-    let la : length a ≡ 4 = length-bigEndian 4 (sizeOf s (x .cred)) in
-    let lb : length b ≡ 4 = length-bigEndian 4 (presentVersion s (x .cred)) in
+    let a : List ℕ = bigEndian 4 (sizeOf s (reachedBy x)) in
+    let b : List ℕ = bigEndian 4 (presentVersion s (reachedBy x)) in
+    let la : length a ≡ 4 = length-bigEndian 4 (sizeOf s (reachedBy x)) in
+    let lb : length b ≡ 4 = length-bigEndian 4 (presentVersion s (reachedBy x)) in
     let lab : length (a ++ b) ≡ length a + length b = length-append a b in
     let l : length (splice r headSize a) ≡ length r = length-splice r a headSize (omega arith) in
-    rw (w .looksize, w .version, put-number r headSize (sizeOf s (x .cred)) (omega arith))
-    (put-number (splice r headSize a) (headSize + 4) (presentVersion s (x .cred)) (omega arith)
+    rw (w .looksize, w .version, put-number r headSize (sizeOf s (reachedBy x)) (omega arith))
+    (put-number (splice r headSize a) (headSize + 4) (presentVersion s (reachedBy x)) (omega arith)
     ∙ splice-after-size r a b headSize (headSize + 4) (omega arith) (omega arith))
 result-is Raise s x m k w fit r h = rw (w .raised refl) (put-number r headSize (nextVersion (s .partition)) h)
 result-is (Create number size) s x m k w fit r h =

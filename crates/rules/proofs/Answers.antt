@@ -111,7 +111,7 @@ module _ (d : Drive) (m : List ℕ) (c : Call) where
   unfolding rows frameRows driveRows scopeRows every
   ready-left h =
       let rest : List Row = frameRows (c .frame) (fields (c .frame))
-      ++ driveRows (driveScope fresh (fields (c .frame) .cred)) (fields (c .frame)) (c .space) in
+      ++ driveRows (driveScope fresh (fields (c .frame) .cred)) m (fields (c .frame)) (c .space) in
       let e : (firstRow table is 1) ≡ false = ap (λ (n : ℕ). n is 1) (row-next (line 1 (row1 d m)) rest h)
       ∙ row-isnt 1 rest refl refl in
       rw e refl

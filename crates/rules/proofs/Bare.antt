@@ -3,7 +3,7 @@
 use mathlib.Core.Path.{_∙_, _≡_, ap, refl, sym}
 use mathlib.Core.Bool.{Bool, cond, false, true}
 use mathlib.Core.Option.{none, Option, Option·getD, Option·map, some}
-use mathlib.Core.List.{List, List·Memᴰ, map}
+use mathlib.Core.List.{[], List, List·Memᴰ, map}
 use Prim.Native.Nat.{ℕ}
 use lib.ListN.{List·getD-map}
 use Rattle.lemmas.specs.ListLaws.{change-map, change-map-same, find-map, found, keep-map, map-append, update-map}
@@ -19,6 +19,7 @@ use Rattle.rules.specs.Frame.{Fields}
 use Rattle.rules.specs.Ledger.{
   bare,
   bareScope,
+  bytesIn,
   ledgerDeleted,
   LedgerObject,
   ledgerWithVersion,
@@ -74,7 +75,7 @@ pub bare-after : (o : Operation) (s : Scope LedgerObject) (l : List Entry) (x : 
     → perform o (withMemory l (bareScope s)) x m .scope ≡ withMemory l (bareScope (ledgerPerform o s x))
 unfolding ledgerPerform perform placementStart placement
 bare-after (Read a b) s l x m = refl
-bare-after (Write a b) s l x m = rw (bare-written (x .cred .object) a (x .payload) (s .partition)) refl
+bare-after (Write a b) s l x m = rw (bare-written _ a (x .payload) (s .partition)) refl
 bare-after Look s l x m = refl
 bare-after Raise s l x m = rw (bare-raised (x .cred .object) (s .partition)) refl
 bare-after (Create a b) s l x m = rw (bare-created a b (placementStart (bareScope s) b) (s .partition)) refl
@@ -115,3 +116,7 @@ module _ (p : Partition LedgerObject) (n : ℕ) where
       → Option·getD (find Object.number n (bare p .objects)) noObject ≡ the-ledger-object e .0 .object
   the-object e = ap (λ (o : Option Object). Option·getD o noObject)
       (found-is ∙ ap (λ (o : Option LedgerObject). Option·map LedgerObject.object o) (the-ledger-object e .1))
+
+  -- its bytes in the ledger
+  pub the-bytes : (e : missing (find Object.number n (bare p .objects)) ≡ false) → bytesIn p n ≡ the-ledger-object e .0 .bytes
+  the-bytes e = ap (λ (o : Option LedgerObject). Option·getD (Option·map LedgerObject.bytes o) []) (the-ledger-object e .1)

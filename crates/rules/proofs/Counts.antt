@@ -75,7 +75,7 @@ module _ (d : Drive) (m : List ℕ) (c : Call) where
   later =
       line 5 (row5 (x .req) (c .frame))
       ∷ line 6 (row6 (x .cred) (x .req))
-      ∷ driveRows (driveScope (refresh (c .clock) d) (x .cred)) x (c .space)
+      ∷ driveRows (driveScope (refresh (c .clock) d) (x .cred)) m x (c .space)
 
   table-parted : gate d m c .row ≡ firstRow (early ++ later)
   unfolding rows frameRows

@@ -1,23 +1,26 @@
 -- Demand 3, of every list of calls after a format: by the invariant of Step.antt, which a format begins and each call keeps.
 use mathlib.Core.Path.{_∙_, _≡_, ap, refl, subst, subst₂, sym}
 use mathlib.Core.Logic.{_⊎_, inl, inr}
-use mathlib.Core.Bool.{Bool, cond, false, false≢true, true}
-use mathlib.Core.Option.{none, some}
+use mathlib.Core.Bool.{Bool, cond, false, false≢true, true, true≢false}
+use mathlib.Core.Option.{none, Option, Option·getD, Option·map, some}
 use mathlib.Core.List.{[], _++_, _∷_, List, List·Memᴰ, List·Memᴰ·not-nil}
-use Prim.Native.Nat.{_+_, _<_, _≤_, ℕ}
+use Prim.Native.Nat.{_*_, _+_, _<_, _≤_, ℕ}
 use native.Mathlib.Decide.{decLt, ℕ-discrete}
 use native.Mathlib.Omega.{arith}
 use lib.ListN.{length, length-map, length-replicate, replicate}
 use borrow.Author.Tests.{eq-eqb, eqb-true, ltb-false}
 use Rattle.lemmas.specs.ListLaws.{every-nth}
-use Rattle.lemmas.specs.Lists.{every}
+use Rattle.lemmas.specs.Lists.{every, find, missing, part}
 use Rattle.lemmas.specs.RowTable.{applies, firstRow, none-applies}
-use Rattle.lemmas.specs.Tests.{_is_, both}
+use Rattle.lemmas.specs.Tests.{_is_, bool-cases, both}
+use Rattle.rules.specs.declared.Credential.{Credential}
+use Rattle.rules.specs.declared.Entry.{Entry}
 use Rattle.rules.specs.declared.Object.{Object}
 use Rattle.rules.specs.Demands.{
   after,
   Agrees,
   AllOfDemand3,
+  callFields,
   Demand3,
   fed,
   extentFrom,
@@ -29,14 +32,28 @@ use Rattle.rules.specs.Demands.{
   extentTo,
 }
 use Rattle.rules.specs.Drive.{format, formatRows, Formatted, newDrive, newTables, Partition, partitionAt, quarter, soundPartition, Tables, emptyPartition}
-use Rattle.rules.specs.Frame.{fields}
+use Rattle.rules.specs.Frame.{Fields}
 use Rattle.rules.specs.Gate.{Call}
-use Rattle.rules.specs.Ledger.{bare, LedgerObject, Ledger, ledger, ledgerStart, tablesOf}
-use Rattle.rules.specs.Operations.{namedObject, objectOf, presentVersion}
-use Rattle.rules.specs.Rows.{bounds, needOf, row10, row13, row14, row15, row17, row7, row8, row9}
+use Rattle.rules.specs.Ledger.{
+  bare,
+  bareScope,
+  bytesIn,
+  clocked,
+  LedgerObject,
+  Ledger,
+  ledger,
+  ledgerGroup,
+  ledgerScope,
+  ledgerStart,
+  numberOf,
+  tablesOf,
+}
+use Rattle.rules.specs.Operations.{extentBytes, extentStart, namedObject, noObject, objectOf, presentVersion}
+use Rattle.rules.specs.Rows.{bounds, groupBytes, needOf, row10, row13, row14, row15, row17, row34, row7, row8, row9}
 use Rattle.rules.specs.Scope.{Scope}
+use Rattle.rules.proofs.Bare.{missing-is, sees, the-bytes, the-ledger-object, the-object}
 use Rattle.rules.proofs.Clear.{bound}
-use Rattle.rules.proofs.Holds.{quarter-below}
+use Rattle.rules.proofs.Holds.{Consistent, quarter-below}
 use Rattle.rules.proofs.Known.{granted-known, Known, known-not-granted, step-known}
 use Rattle.rules.proofs.Shown.{read-shown}
 use Rattle.rules.proofs.Sound.{
@@ -51,7 +68,7 @@ use Rattle.rules.proofs.Sound.{
   SoundTables,
   unused-sound,
 }
-use Rattle.rules.proofs.Step.{clear-of, Invariant, inv-sound, row-zero, sees-is, step-inv}
+use Rattle.rules.proofs.Step.{clear-of, entries, fresh-inv, Invariant, inv-sound, row-zero, rowOf, sees-is, step-inv}
 
 -- ---- format
 empty : {A : Type 0} → List A → Bool
@@ -181,10 +198,50 @@ agree {M} {s} {l} v = record {
             let h′ : r < p = omega arith in
             inr (omega (arith, quarter-below (quarter M) r p h′, object r b k .inside))
 
+-- ---- the rows that the ledger judges
+-- the bytes of object n, by the medium and by the ledger; none where it is not there
+same-bytes : {M : ℕ} {m : List ℕ} {l : Ledger} → Consistent M m l → (es : List Entry) (c : Credential) (n : ℕ)
+    → extentBytes (sees M l es c) c n m ≡ bytesIn (partitionAt l (c .partition)) n
+unfolding extentBytes extentStart objectOf namedObject missing part
+same-bytes {M} {m} {l} g es c n = go (bool-cases (missing (find Object.number n (bare here .objects))))
+  where
+    here : Partition LedgerObject
+    here = partitionAt l (c .partition)
+
+    bytes : Object → List ℕ
+    bytes a = part m (c .partition * quarter M + a .start) (a .size)
+
+    not-there : (o : Option Object) (k : Option LedgerObject) → missing o ≡ true → missing k ≡ true
+        → bytes (Option·getD o noObject) ≡ Option·getD (Option·map LedgerObject.bytes k) []
+    not-there none none e f = refl
+    not-there (some a) k e f = absurd (true≢false (sym e))
+    not-there none (some h) e f = absurd (true≢false (sym f))
+
+    go : (missing (find Object.number n (bare here .objects)) ≡ true)
+        ⊎ (missing (find Object.number n (bare here .objects)) ≡ false)
+        → bytes (Option·getD (find Object.number n (bare here .objects)) noObject) ≡ bytesIn here n
+    go (inl e) = not-there (find Object.number n (bare here .objects)) (find numberOf n (here .objects)) e
+        (missing-is here n ∙ e)
+    go (inr e) =
+        ap bytes (the-object here n e)
+        ∙ g .bytes (c .partition) (the-ledger-object here n e .0) (the-ledger-object here n e .2)
+        ∙ sym (the-bytes here n e)
+
+-- (they do not look at the replay memory)
+bounds-kept : {M : ℕ} {s : State} {l : Ledger} → Invariant M s l → (c : Call) → rowOf s c ≡ 0
+    → let t = ledgerScope M (clocked (c .clock) l) (callFields c .cred) in
+    firstRow (bounds (bareScope t) (ledgerGroup t (callFields c .cred)) (callFields c)) ≡ 0
+unfolding bounds needOf row7 row8 row9 row10 row13 row14 row15 row17 row34 namedObject objectOf presentVersion
+bounds-kept {M} {s} {l} v c g =
+    let x : Fields = callFields c in
+    let now : Ledger = clocked (c .clock) l in
+    subst (λ (b : List ℕ). firstRow (bounds (bareScope (ledgerScope M now (x .cred))) b x) ≡ 0)
+    (same-bytes (fresh-inv v c .consistent) (entries v c) (x .cred) (x .cred .object))
+    (subst (λ (t : Scope Object). firstRow (bounds t (groupBytes t (x .cred) (s .medium)) x) ≡ 0) (sees-is v c)
+    (bound (clear-of v c g)))
+
 -- ---- demand 3, from any state and ledger of which the invariant holds
 demand : {M : ℕ} {s : State} {l : Ledger} → Invariant M s l → (calls : List Call) → Demand3 M s l calls
--- (the rows that the ledger judges do not look at the replay memory)
-unfolding bounds needOf row7 row8 row9 row10 row13 row14 row15 row17 namedObject objectOf presentVersion
 demand {M} {s} {l} v calls = record {
   noRepeat = λ before between later c d e gc gd same.
       let u = run-inv v before in
@@ -194,8 +251,7 @@ demand {M} {s} {l} v calls = record {
       (subst₂ (λ (n : Nonce) (w : State). Known n (w .drive)) same (sym (after-append s before c between)) k) gd;
   kept = λ before later c e g.
       let u = run-inv v before in
-      subst (λ (t : Scope Object). firstRow (bounds t (fields (c .frame))) ≡ 0) (sees-is u c)
-      (bound (clear-of u c (row-zero u c g)));
+      bounds-kept u c (row-zero u c g);
   shown = λ before later c A B e g o. read-shown (run-inv v before) c g A B o;
   agrees = λ before later e. agree (run-inv v before);
 }

@@ -4,7 +4,7 @@ use mathlib.Core.Path.{_∙_, _≡_, ap, refl, sym}
 use mathlib.Core.Bool.{Bool, cond, false, not, true}
 use mathlib.Core.Option.{some}
 use mathlib.Core.List.{[], _++_, _∷_, append-nil, List}
-use Prim.Native.Nat.{_+_, ℕ}
+use Prim.Native.Nat.{ℕ}
 use lib.ListN.{length, replicate, take}
 use lib.Seq.{take-at}
 use borrow.Author.Tests.{eqb-false, eqb-true}
@@ -16,27 +16,29 @@ use Rattle.lemmas.specs.Tests.{_is_}
 use Rattle.digest.specs.Hmac.{hmac}
 use Rattle.rules.specs.declared.Credential.{Credential}
 use Rattle.rules.specs.declared.Object.{Object}
-use Rattle.rules.specs.Client.{build, buildRows, Built, frameOf, issue, Issued, issueRows}
+use Rattle.rules.specs.Client.{build, buildRows, Built, builtLength, frameOf, issue, Issued, issueRows}
 use Rattle.rules.specs.Demands.{AllOfDemand2, Authentic, IssuesBack}
 use Rattle.rules.specs.Drive.{Drive, Keys, refresh}
 use Rattle.rules.specs.Frame.{
   credential-read-back,
   credentialAt,
   credentialBytes,
+  credentialLength,
   CredentialFits,
   credentialSize,
   Fields,
   fields,
   keySize,
   length-credential,
+  requestStart,
 }
 use Rattle.rules.specs.Gate.{Call, gate}
 use Rattle.rules.specs.Operations.{credentialKey, digestOf, keyIn, signing}
-use Rattle.rules.specs.Rows.{driveRows, frameRows, leastFrame, row1, row7, row8, row9, rows, scopeRows}
+use Rattle.rules.specs.Rows.{driveRows, frameRows, groupBytes, row1, row7, row8, row9, rows, scopeRows}
 use Rattle.rules.specs.Scope.{driveScope, Scope}
 use Rattle.rules.proofs.Answers.{exact, gate-row}
 use Rattle.rules.proofs.RepliesBack.{replies-back}
-use Rattle.rules.proofs.RoundTrip.{built-fields, reads-back}
+use Rattle.rules.proofs.RoundTrip.{built-fields, length-issued, reads-back}
 
 -- ---- a call that returned row 0 is one that no row refuses
 pub build-zero : (a b p k s : List ℕ) → build a b p k s .row ≡ 0 → firstRow (buildRows a b p k s) ≡ 0
@@ -44,7 +46,7 @@ unfolding build
 build-zero a b p k s e = go (firstRow (buildRows a b p k s) is 0) refl e
   where
     go : (i : Bool) → (firstRow (buildRows a b p k s) is 0) ≡ i
-        → cond {A = Built} i (record { row = 0; length = leastFrame + length p; space = splice s 0 (frameOf a b p k) })
+        → cond {A = Built} i (record { row = 0; length = builtLength a b; space = splice s 0 (frameOf a b p k) })
         (record { row = firstRow (buildRows a b p k s); length = 0; space = s }) .row ≡ 0
         → firstRow (buildRows a b p k s) ≡ 0
     go true z h = eqb-true (firstRow (buildRows a b p k s)) 0 z
@@ -73,7 +75,9 @@ module _ (c : Credential) (fit : CredentialFits c) (rest : List ℕ) where
 
   bytes-are : fields (credentialBytes c ++ rest) .credential ≡ credentialBytes c
   unfolding fields part
-  bytes-are = take-at (credentialBytes c) rest credentialSize (length-credential c)
+  bytes-are =
+      take-at (credentialBytes c) rest (requestStart (credentialBytes c ++ rest))
+      (length-issued c ∙ ap credentialLength (sym (credential-read-back c [] rest fit)))
 
   key-is : (keys : Keys) (k : List ℕ) → keyIn keys (c .partition) (c .slot) ≡ some k
       → credentialKey keys (fields (credentialBytes c ++ rest)) ≡ hmac k (credentialBytes c)
@@ -122,17 +126,17 @@ module _ (c : Credential) (k s b p room : List ℕ) (fit : CredentialFits c) (z 
   digest t e = passes-9 (credentialBytes c) b p (issue c k s .key) room no-row t (issues-back c k s fit z .key (t .keys) _ e)
 
   -- rows 2 to 6, 8 and 9 are passed over
-  passed : (d : Drive) (clock : ℕ) (space : List ℕ) → keyIn (d .tables .keys) (c .partition) (c .slot) ≡ some k
-      → firstRow (frameRows frame (fields frame) ++ driveRows (driveScope (refresh clock d) (fields frame .cred)) (fields frame) space)
+  passed : (d : Drive) (m : List ℕ) (clock : ℕ) (space : List ℕ) → keyIn (d .tables .keys) (c .partition) (c .slot) ≡ some k
+      → firstRow (frameRows frame (fields frame) ++ driveRows (driveScope (refresh clock d) (fields frame .cred)) m (fields frame) space)
       ≡ firstRow (line 7 (row7 (driveScope (refresh clock d) (fields frame .cred)) (fields frame .cred) (fields frame .req))
       ∷ scopeRows (driveScope (refresh clock d) (fields frame .cred)) (fields frame .cred) (fields frame .req)
-      (fields frame .payload) (length space))
+      (fields frame .payload) (groupBytes (driveScope (refresh clock d) (fields frame .cred)) (fields frame .cred) m) (length space))
   unfolding driveRows firstRow frameRows every refresh
-  passed d clock space e =
+  passed d m clock space e =
       let x : Fields = fields frame in
       let t : Scope Object = driveScope (refresh clock d) (x .cred) in
-      let later : List Row = scopeRows t (x .cred) (x .req) (x .payload) (length space) in
-      rows-passed (frameRows frame x) (driveRows t x space) refl
+      let later : List Row = scopeRows t (x .cred) (x .req) (x .payload) (groupBytes t (x .cred) m) (length space) in
+      rows-passed (frameRows frame x) (driveRows t m x space) refl
       (reads-back (credentialBytes c) b p (issue c k s .key) room no-row .accepted)
       ∙ ap (cond (row7 t (x .cred) (x .req)) 7)
       (row-next (line 8 (row8 t (x .cred))) (line 9 (row9 t x) ∷ later) (set t e)
@@ -142,12 +146,13 @@ module _ (c : Credential) (k s b p room : List ℕ) (fit : CredentialFits c) (z 
       → gate d m call .row ≡ firstRow (line 1 (row1 d m)
       ∷ line 7 (row7 (driveScope (refresh (call .clock) d) (fields frame .cred)) (fields frame .cred) (fields frame .req))
       ∷ scopeRows (driveScope (refresh (call .clock) d) (fields frame .cred)) (fields frame .cred) (fields frame .req)
-      (fields frame .payload) (length (call .space)))
+      (fields frame .payload) (groupBytes (driveScope (refresh (call .clock) d) (fields frame .cred)) (fields frame .cred) m)
+      (length (call .space)))
   unfolding rows firstRow
   row d m call h e =
       gate-row d m call
       ∙ ap (λ (f : List ℕ). firstRow (rows d m f (call .clock) (call .space))) h
-      ∙ ap (cond (row1 d m) 1) (passed d (call .clock) (call .space) e)
+      ∙ ap (cond (row1 d m) 1) (passed d m (call .clock) (call .space) e)
 
   pub authentic : Authentic c k frame
   authentic = record { set = set; digest = digest; row = row }

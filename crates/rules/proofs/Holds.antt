@@ -21,7 +21,7 @@ use Rattle.rules.specs.declared.Object.{Object}
 use Rattle.rules.specs.Drive.{apart, Keys, Partition, partitionAt, quarter, soundPartition}
 use Rattle.rules.specs.declared.Operation.{Operation}
 use Rattle.rules.specs.declared.Operation.the-variants.{Create, Delete, LoadTable, Look, Raise, Read, SetKey, Write}
-use Rattle.rules.specs.Frame.{Fields}
+use Rattle.rules.specs.Frame.{Fields, targetOf}
 use Rattle.rules.specs.Ledger.{bare, bareScope, ledgerDeleted, LedgerObject, ledgerWithVersion, ledgerCreated, Ledger, ledgerPerform, ledgerScope, numberOf, ledgerRaised, tablesOf, ledgerWritten, withBytesWritten}
 use Rattle.rules.specs.Operations.{extentStart, keySet, namedObject, nextVersion, objectOf, perform, placement, placementStart}
 use Rattle.rules.specs.Scope.{withScope, Scope, withKeys}
@@ -48,8 +48,8 @@ use Rattle.rules.proofs.Sound.{
 
 -- ---- what is known of a grant
 pub record CanWrite (s : Scope Object) (x : Fields) (offset size : ℕ) : Type 0 where
-  pub there : missing (namedObject s (x .cred)) ≡ false
-  pub fits : offset + size ≤ objectOf s (x .cred) .size
+  pub there : missing (namedObject s (targetOf (x .cred) (x .req))) ≡ false
+  pub fits : offset + size ≤ objectOf s (targetOf (x .cred) (x .req)) .size
   pub len : length (x .payload) ≡ size
 
 pub record Grant (o : Operation) (s : Scope Object) (x : Fields) : Type 0 where
@@ -152,13 +152,13 @@ module _ {M : ℕ} {m : List ℕ} {l : Ledger} (g : Consistent M m l) where
 
   -- ---- 2. Write
   written-bytes : (x : Fields) (offset size : ℕ) (k : LedgerObject) → x .cred .partition < 4
-      → In (x .cred .partition) k → numberOf k ≡ x .cred .object → offset + length (x .payload) ≤ k .object .size
+      → In (x .cred .partition) k → numberOf k ≡ targetOf (x .cred) (x .req) → offset + length (x .payload) ≤ k .object .size
       → BytesAfter (Write offset size) x
       (splice m (x .cred .partition * quarter M + k .object .start + offset) (x .payload))
   unfolding ledgerPerform ledgerWritten withBytesWritten
   written-bytes x offset size k hp i e fit =
       bytes-at x (ledgerPerform (Write offset size) (ledgerScope M l (x .cred)) x) m′ hp (λ h j. here h
-      (member-change numberOf (x .cred .object) (withBytesWritten offset (x .payload)) (partitionAt l p .objects) h j))
+      (member-change numberOf (targetOf (x .cred) (x .req)) (withBytesWritten offset (x .payload)) (partitionAt l p .objects) h j))
       (λ r h ne j. subst (λ (n : ℕ). Held M (splice m n (x .payload)) r h)
       (sym (add-assoc (p * quarter M) (k .object .start) offset))
       (elsewhere p (k .object .start + offset) (x .payload) hp (omega (arith, sound-in p k i .inside)) r h ne j))
@@ -182,8 +182,8 @@ module _ {M : ℕ} {m : List ℕ} {l : Ledger} (g : Consistent M m l) where
           ∙ ap (λ (b : List ℕ). splice b offset (x .payload)) (g .bytes p k i)
 
       here : (h : LedgerObject)
-          → (In p h × (numberOf h ≡ x .cred .object → ⊥))
-          ⊎ ((b : LedgerObject) × In p b × (numberOf b ≡ x .cred .object) × (h ≡ withBytesWritten offset (x .payload) b))
+          → (In p h × (numberOf h ≡ targetOf (x .cred) (x .req) → ⊥))
+          ⊎ ((b : LedgerObject) × In p b × (numberOf b ≡ targetOf (x .cred) (x .req)) × (h ≡ withBytesWritten offset (x .payload) b))
           → Held M m′ p h
       here h (inl r) = away h (r .0) (members-disjoint (sound-at p) (Memᴰ·map LedgerObject.object i)
           (Memᴰ·map LedgerObject.object (r .0)) (λ f. r .1 (sym f ∙ e)))
@@ -193,11 +193,12 @@ module _ {M : ℕ} {m : List ℕ} {l : Ledger} (g : Consistent M m l) where
 
   write-bytes : (es : List Entry) (x : Fields) (offset size : ℕ) → x .cred .partition < 4
       → CanWrite (sees M l es (x .cred)) x offset size
-      → BytesAfter (Write offset size) x (splice m (extentStart (sees M l es (x .cred)) (x .cred) + offset) (x .payload))
+      → BytesAfter (Write offset size) x
+      (splice m (extentStart (sees M l es (x .cred)) (x .cred) (targetOf (x .cred) (x .req)) + offset) (x .payload))
   unfolding extentStart objectOf namedObject
   write-bytes es x offset size hp c =
       let p : Partition LedgerObject = partitionAt l (x .cred .partition) in
-      let n : ℕ = x .cred .object in
+      let n : ℕ = targetOf (x .cred) (x .req) in
       rw (the-object p n (c .there))
       (written-bytes x offset size (the-ledger-object p n (c .there) .0) hp (the-ledger-object p n (c .there) .2) (the-ledger-object p n (c .there) .3)
       (omega (arith, c .len, c .fits, ap Object.size (the-object p n (c .there)))))
@@ -327,8 +328,8 @@ module _ {M : ℕ} {m : List ℕ} {l : Ledger} (g : Consistent M m l) where
   size-after (Write a b) es x c =
       let w : CanWrite (sees M l es (x .cred)) x a b = c .writes a b refl in
       let p : Partition LedgerObject = partitionAt l (x .cred .partition) in
-      let n : ℕ = x .cred .object in
-      length-splice m (x .payload) (extentStart (sees M l es (x .cred)) (x .cred) + a)
+      let n : ℕ = targetOf (x .cred) (x .req) in
+      length-splice m (x .payload) (extentStart (sees M l es (x .cred)) (x .cred) n + a)
       (omega (
         arith,
         w .len,

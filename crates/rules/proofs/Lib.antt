@@ -1,7 +1,7 @@
 -- The theorems over document 01's definitions: demand 1 (`Answers`), demand 2 (`RoundTrip`, `RepliesBack`), demand 3
 -- (`Demand`), the placing rule (`Placing`), the customer's story (`OneLog`, `OpensNothing`); and over document 02's: the
 -- shift report (`Counts`), the two heads (`TwoHeads`), the sixteen-byte steps (`Steps`), the operation table
--- (`OperationTable`). The other files lead to these.
+-- (`OperationTable`), the group credential (`GroupCredential`). The other files lead to these.
 pub mod Answers
 -- the placing rule
 pub mod Gaps
@@ -38,3 +38,6 @@ pub mod TwoHeads
 pub mod Steps
 -- the operation table
 pub mod OperationTable
+-- the group credential
+pub mod BytesBack
+pub mod GroupCredential

@@ -6,20 +6,21 @@ use mathlib.Core.Option.{Option·some-injective, some}
 use mathlib.Core.List.{[], _++_, _∷_, List, List·Memᴰ, List·Memᴰ·head, List·Memᴰ·tail}
 use Prim.Native.Nat.{_+_, _≤_, ℕ}
 use native.Mathlib.Omega.{arith}
-use Rattle.rules.specs.Demands.{bytesOf}
 use Rattle.rules.specs.Drive.{partitionAt}
 use Rattle.rules.specs.declared.Operation.the-variants.{Create, Delete, Raise}
 use Rattle.rules.specs.Frame.{Fields, operationOf}
-use Rattle.rules.specs.Ledger.{Fed, feed, Ledger, ledger}
+use Rattle.rules.specs.Ledger.{bytesIn, bytesOf, Fed, feed, Ledger, ledger}
 use Rattle.rules.specs.Story.{
   Carries,
   fedFields,
   lastOf,
   OfEveryList,
   OneLog,
+  reached,
   Renewing,
   Renews,
   rewritten,
+  Together,
   Uses,
   versionOf,
   VersionsOnce,
@@ -40,7 +41,6 @@ use Rattle.rules.proofs.Versions.{
   Sane,
   still-step,
 }
-use Rattle.rules.proofs.Renewal.{bytesIn}
 
 ledger-append : (M : ℕ) (l : Ledger) (a b : List Fed) → ledger M l (a ++ b) ≡ ledger M (ledger M l a) b
 unfolding ledger
@@ -119,16 +119,16 @@ same-run M l (c ∷ cs) later d e p n v u k b (List·Memᴰ·tail m) ue ud =
     same-run M (feed M l c) cs later d e p n v u (k .1) (versions-from-step M (k .0) v p n b) m ue ud
 
 -- a use renews nothing
-renews-none : (p n v : ℕ) (c : Fed) → Uses p n v c → Renews p n c → ⊥
-renews-none p n v c u r = go (r .object)
+renews-none : (p n k v : ℕ) (c : Fed) → Uses p n v c → Renews p k c → ⊥
+renews-none p n k v c u r = go (r .object)
   where
     x : Fields
     x = fedFields c
 
-    go : Renewing (operationOf x) x n → ⊥
-    go (inl (inl k)) = omega (arith, u .operation, asks-for (x .req) Raise (k .0))
-    go (inl (inr k)) = omega (arith, u .operation, asks-for (x .req) (Create n (k .0)) (k .1) .0)
-    go (inr k) = omega (arith, u .operation, asks-for (x .req) Delete (k .0))
+    go : Renewing (operationOf x) x k → ⊥
+    go (inl (inl h)) = omega (arith, u .operation, asks-for (x .req) Raise (h .0))
+    go (inl (inr h)) = omega (arith, u .operation, asks-for (x .req) (Create k (h .0)) (h .1) .0)
+    go (inr h) = omega (arith, u .operation, asks-for (x .req) Delete (h .0))
 
 module _ (M : ℕ) (l : Ledger) (calls : List Fed) (k : FedByGate M l calls) where
   pub rest : (before later : List Fed) → calls ≡ before ++ later → FedByGate M (ledger M l before) later
@@ -193,8 +193,40 @@ module _ (M : ℕ) (l : Ledger) (calls : List Fed) (k : FedByGate M l calls) whe
       below : v + 1 ≤ v → ⊥
       below z = omega arith
 
+  -- nor of a log k whose renewals come with those of what the uses name
+  together-uses : (before between later : List Fed) (c d e : Fed) (p n k v : ℕ)
+      → calls ≡ before ++ (c ∷ (between ++ (d ∷ later))) → Uses p n v c → Uses p n v d → Together p n k between
+      → List·Memᴰ e between → Renews p k e → ⊥
+  together-uses before between later c d e p n k v q uc ud t m r =
+      let f = t e m r in
+      between-uses before between later c d (f .0) p n v q uc ud (f .1 .0) (f .1 .1)
+
+  -- so its bytes change by writes only
+  together-bytes : (before between later : List Fed) (c d : Fed) (p n k v : ℕ)
+      → calls ≡ before ++ (c ∷ (between ++ (d ∷ later))) → Uses p n v c → Uses p n v d → Together p n k between
+      → reached c ≡ k → reached d ≡ k
+      → bytesOf (ledger M l (before ++ (c ∷ between))) (fedFields d)
+      ≡ rewritten p k (c ∷ between) (bytesOf (ledger M l before) (fedFields c))
+  unfolding bytesOf
+  together-bytes before between later c d p n k v q uc ud t rc rd =
+      subst₂ (λ (i j : ℕ). bytesIn (partitionAt (ledger M l (before ++ (c ∷ between))) i) j
+      ≡ rewritten p k (c ∷ between) (bytesIn (partitionAt was (fedFields c .cred .partition)) (reached c)))
+      (sym (ud .partition)) (sym rd)
+      (subst₂ (λ (i j : ℕ). bytesIn (partitionAt (ledger M l (before ++ (c ∷ between))) p) k
+      ≡ rewritten p k (c ∷ between) (bytesIn (partitionAt was i) j))
+      (sym (uc .partition)) (sym rc)
+      (ap (λ (a : Ledger). bytesIn (partitionAt a p) k) (ledger-append M l before (c ∷ between))
+      ∙ bytes-run M was (c ∷ between) (d ∷ later) p k (rest before (c ∷ (between ++ (d ∷ later))) q) none))
+    where
+      was : Ledger
+      was = ledger M l before
+
+      none : (e : Fed) → List·Memᴰ e (c ∷ between) → Renews p k e → ⊥
+      none e (List·Memᴰ·head i) r = renews-none p n k v c uc (subst (Renews p k) i r)
+      none e (List·Memᴰ·tail m) r = together-uses before between later c d e p n k v q uc ud t m r
+
   one-of : OneLog M l calls
-  unfolding FedByGate ledger bytesOf
+  unfolding FedByGate ledger
   one-of = record {
     unbroken = between-uses;
     same = λ before between later c d e p n v u q uc ud m ue.
@@ -204,25 +236,10 @@ module _ (M : ℕ) (l : Ledger) (calls : List Fed) (k : FedByGate M l calls) whe
         same-run M (feed M was c) between later d e p n v u (h .1) (versions-from-step M (h .0) v p n b) m ue
         ud;
     bytes = λ before between later c d p n v q uc ud.
-        let was : Ledger = ledger M l before in
-        subst₂ (λ (i j : ℕ). bytesIn (partitionAt (ledger M l (before ++ (c ∷ between))) i) j
-        ≡ rewritten p n (c ∷ between) (bytesIn (partitionAt was (fedFields c .cred .partition)) (fedFields c .cred .object)))
-        (sym (ud .partition)) (sym (ud .object))
-        (subst₂ (λ (i j : ℕ). bytesIn (partitionAt (ledger M l (before ++ (c ∷ between))) p) n
-        ≡ rewritten p n (c ∷ between) (bytesIn (partitionAt was i) j))
-        (sym (uc .partition)) (sym (uc .object))
-        (ap (λ (a : Ledger). bytesIn (partitionAt a p) n) (ledger-append M l before (c ∷ between))
-        ∙ bytes-run M was (c ∷ between) (d ∷ later) p n (rest before (c ∷ (between ++ (d ∷ later))) q)
-        (none before between later c d p n v q uc ud)));
+        together-bytes before between later c d p n n v q uc ud (λ e m r. (e, (m, r)));
+    member = together-uses;
+    memberBytes = together-bytes;
   }
-    where
-      none : (before between later : List Fed) (c d : Fed) (p n v : ℕ)
-          → calls ≡ before ++ (c ∷ (between ++ (d ∷ later))) → Uses p n v c → Uses p n v d
-          → (e : Fed) → List·Memᴰ e (c ∷ between) → Renews p n e → ⊥
-      none before between later c d p n v q uc ud e (List·Memᴰ·head i) r =
-          renews-none p n v c uc (subst (Renews p n) i r)
-      none before between later c d p n v q uc ud e (List·Memᴰ·tail m) r =
-          between-uses before between later c d e p n v q uc ud m r
 
 pub versions-once : OfEveryList VersionsOnce
 versions-once medium F master drive calls e =

@@ -2,6 +2,7 @@
 -- return, and the mark never falls.
 use mathlib.Core.Path.{_≡_, ap, refl, subst}
 use mathlib.Core.Bool.{Bool, cond, false, true}
+use mathlib.Core.Option.{some}
 use mathlib.Core.List.{_++_, _∷_, List, List·Memᴰ, List·Memᴰ·head, List·Memᴰ·tail}
 use Prim.Native.Nat.{_+_, _<_, _≤_, ℕ}
 use native.Mathlib.Omega.{arith}
@@ -9,7 +10,7 @@ use Rattle.lemmas.specs.Tests.{_is_}
 use Rattle.rules.specs.Frame.{Fields, operationOf}
 use Rattle.rules.specs.Ledger.{clocked, Fed, feed, Ledger, ledger, ledgerPerform, ledgerScope}
 use Rattle.rules.specs.Scope.{withScope}
-use Rattle.rules.specs.Story.{Carries, fedFields, lastOf, OfEveryList, OpensNothing, Renews}
+use Rattle.rules.specs.Story.{Carries, fedFields, lastOf, OfEveryList, OpensNothing, Renews, versionOf}
 use Rattle.rules.proofs.OneLog.{carried, renewed-run, rest}
 use Rattle.rules.proofs.Versions.{all-fed, FedByGate, fed-rest, fed-sane, VersionsFrom}
 
@@ -56,19 +57,29 @@ run-out M l c d (e ∷ later) k (List·Memᴰ·tail m) h g =
     run-out M (feed M l c) e d later (k .1) m (omega (arith, h, mark-step M l c)) g
 
 -- ---- every list
-opens-of : (M : ℕ) (l : Ledger) (calls : List Fed) → FedByGate M l calls → OpensNothing M l calls
-unfolding clocked
-opens-of M l calls k = record {
-  old = λ before between later c d p n v q e m r u g.
+module _ (M : ℕ) (l : Ledger) (calls : List Fed) (k : FedByGate M l calls) where
+  -- object n had version v, and was renewed since
+  old-refused : (before between later : List Fed) (c d : Fed) (p n v : ℕ) → calls ≡ before ++ (between ++ (d ∷ later))
+      → versionOf (ledger M l before) p n ≡ some v → List·Memᴰ c between → Renews p n c → Carries p n v d
+      → d .row ≡ 0 → ⊥
+  old-refused before between later c d p n v q e m r u g =
       let h = rest M l calls k before (between ++ (d ∷ later)) q in
-      renewed-refused M (ledger M l before) between later c d p n v h (fed-sane M (ledger M l before) (between ++ (d ∷ later)) h .given p n v e)
-      m r u g;
-  older = λ before between later c d p n v q h r u g.
-      renewed-refused M (ledger M l before) (c ∷ between) later c d p n v (rest M l calls k before (c ∷ (between ++ (d ∷ later))) q) h
-      (List·Memᴰ·head refl) r u g;
-  runOut = λ before later c d q m h g.
-      run-out M (ledger M l before) c d later (rest M l calls k before (c ∷ later) q) m (omega (arith, h)) g;
-}
+      renewed-refused M (ledger M l before) between later c d p n v h
+      (fed-sane M (ledger M l before) (between ++ (d ∷ later)) h .given p n v e) m r u g
+
+  opens-of : OpensNothing M l calls
+  unfolding clocked
+  opens-of = record {
+    old = old-refused;
+    older = λ before between later c d p n v q h r u g.
+        renewed-refused M (ledger M l before) (c ∷ between) later c d p n v
+        (rest M l calls k before (c ∷ (between ++ (d ∷ later))) q) h (List·Memᴰ·head refl) r u g;
+    member = λ before between later c d p n i v q e t m r u g.
+        let f = t c m r in
+        old-refused before between later (f .0) d p n v q e (f .1 .0) (f .1 .1) u g;
+    runOut = λ before later c d q m h g.
+        run-out M (ledger M l before) c d later (rest M l calls k before (c ∷ later) q) m (omega (arith, h)) g;
+  }
 
 pub opens-nothing : OfEveryList OpensNothing
 opens-nothing medium F master drive calls e = opens-of _ _ _ (all-fed medium F master drive calls e)

@@ -37,14 +37,13 @@ use Rattle.rules.specs.Drive.{
   refresh,
   Tables,
 }
-use Rattle.rules.specs.Frame.{Fields, fields, operationOf}
+use Rattle.rules.specs.Frame.{bit, Fields, fields, operationOf}
 use Rattle.rules.specs.Gate.{Answer, Call, gate, granted}
 use Rattle.rules.specs.Needs.{defaultNeed, defaultNeeds, goodNeed, goodNeeds, needsAt, needUnder, tableNeed}
 use Rattle.rules.specs.Operations.{created, deleted, perform, raised}
 use Rattle.rules.specs.OperationTable.{
   AllTableMoves,
   AsBefore,
-  bit,
   EightAsSeven,
   EveryRight,
   GoodAsks,
@@ -238,7 +237,7 @@ needs-after (SetKey a) s x m = inr refl
 needs-after LoadTable s x m = inl refl
 
 -- row 31
-loads-good : {f : List ℕ} {s : Scope Object} {space : List ℕ} → Clear f s space → operationOf (fields f) ≡ LoadTable
+loads-good : {f : List ℕ} {s : Scope Object} {m space : List ℕ} → Clear f s m space → operationOf (fields f) ≡ LoadTable
     → goodNeeds (needsAt (fields f .payload)) ≡ true
 unfolding row31
 loads-good {f = f} g o =

@@ -16,7 +16,7 @@ use Rattle.rules.specs.declared.Object.{Object}
 use Rattle.rules.specs.Demands.{callFields, State}
 use Rattle.rules.specs.Drive.{Partition, partitionAt}
 use Rattle.rules.specs.declared.Operation.the-variants.{Raise, Write}
-use Rattle.rules.specs.Frame.{Fields, operationOf}
+use Rattle.rules.specs.Frame.{Fields, operationOf, targetOf}
 use Rattle.rules.specs.Gate.{Call}
 use Rattle.rules.specs.Ledger.{clocked, Fed, feed, LedgerObject, Ledger, ledgerPerform, ledgerScope, numberOf}
 use Rattle.rules.specs.Operations.{namedObject, objectOf, presentVersion}
@@ -33,13 +33,13 @@ pub record Passed (l : Ledger) (x : Fields) : Type 0 where
   -- operations 1 to 6 name what is there, by its version
   pub version : x .req .operation ≤ 6 → versionOf l (x .cred .partition) (x .cred .object) ≡ some (x .cred .version)
   pub writes : (a b : ℕ) → operationOf x ≡ Write a b
-      → missing (find numberOf (x .cred .object) (partitionAt l (x .cred .partition) .objects)) ≡ false
+      → missing (find numberOf (targetOf (x .cred) (x .req)) (partitionAt l (x .cred .partition) .objects)) ≡ false
   pub renews : CanRenew (operationOf x) x (partitionAt l (x .cred .partition))
 
 -- the version that a frame names, by the ledger
 version-held : (M : ℕ) (l : Ledger) (es : List Entry) (x : Fields)
-    → ((x .cred .object ≡ 0 → ⊥) → missing (namedObject (sees M l es (x .cred)) (x .cred)) ≡ false)
-    → x .cred .version ≡ presentVersion (sees M l es (x .cred)) (x .cred)
+    → ((x .cred .object ≡ 0 → ⊥) → missing (namedObject (sees M l es (x .cred)) (x .cred .object)) ≡ false)
+    → x .cred .version ≡ presentVersion (sees M l es (x .cred)) (x .cred .object)
     → versionOf l (x .cred .partition) (x .cred .object) ≡ some (x .cred .version)
 unfolding versionIn presentVersion namedObject objectOf
 version-held M l es x h e = go (ℕ-discrete (x .cred .object) 0)
@@ -62,7 +62,7 @@ unfolding clocked namedObject
 passed {M} {s} {l} v c g = record {
   partition = the-grant v c g .partition;
   version = version;
-  writes = λ a b o. missing-is p (x .cred .object) ∙ the-grant v c g .writes a b o .there;
+  writes = λ a b o. missing-is p (targetOf (x .cred) (x .req)) ∙ the-grant v c g .writes a b o .there;
   renews = record {
     raises = λ o. version (omega (arith, asks-for (x .req) Raise o));
     creates = λ n size o. (
@@ -80,7 +80,7 @@ passed {M} {s} {l} v c g = record {
     p : Partition LedgerObject
     p = partitionAt l (x .cred .partition)
 
-    ok : Clear (c .frame) (driveScope (fresh s c) (x .cred)) (c .space)
+    ok : Clear (c .frame) (driveScope (fresh s c) (x .cred)) (s .medium) (c .space)
     ok = clear-of v c g
 
     now : (P : Scope Object → Type 0) → P (driveScope (fresh s c) (x .cred))
@@ -90,8 +90,8 @@ passed {M} {s} {l} v c g = record {
     version : x .req .operation ≤ 6
         → versionOf l (x .cred .partition) (x .cred .object) ≡ some (x .cred .version)
     version h = version-held M (clocked (c .clock) l) (entries v c) x
-        (λ z. now (λ (t : Scope Object). missing (namedObject t (x .cred)) ≡ false) (exists ok z))
-        (now (λ (t : Scope Object). x .cred .version ≡ presentVersion t (x .cred)) (version-is ok h))
+        (λ z. now (λ (t : Scope Object). missing (namedObject t (x .cred .object)) ≡ false) (exists ok z))
+        (now (λ (t : Scope Object). x .cred .version ≡ presentVersion t (x .cred .object)) (version-is ok h))
 
     not-zero : {n : ℕ} → 1 ≤ n → n ≡ 0 → ⊥
     not-zero h z = omega arith

@@ -15,9 +15,10 @@ use Rattle.lemmas.specs.Tests.{_is_}
 use Rattle.rules.specs.Drive.{Partition}
 use Rattle.rules.specs.declared.Operation.{Operation}
 use Rattle.rules.specs.declared.Operation.the-variants.{Create, Delete, LoadTable, Look, Raise, Read, SetKey, Write}
-use Rattle.rules.specs.Frame.{Fields}
+use Rattle.rules.specs.Frame.{Fields, targetOf}
 use Rattle.rules.specs.Ledger.{
   bareScope,
+  bytesIn,
   ledgerDeleted,
   LedgerObject,
   ledgerWithVersion,
@@ -189,7 +190,7 @@ module _ (M : ℕ) (x : Fields) (l : Ledger) (p : Partition LedgerObject) where
   pub renewed-or-same : (o : Operation) (n : ℕ) → Renewing o x n ⊎ (versionIn (partitionAfter o M x l p) n ≡ versionIn p n)
   unfolding ledgerPerform versionIn ledgerCreated ledgerDeleted
   renewed-or-same (Read a b) n = inr refl
-  renewed-or-same (Write a b) n = inr (written-version (x .cred .object) a (x .payload) n)
+  renewed-or-same (Write a b) n = inr (written-version (targetOf (x .cred) (x .req)) a (x .payload) n)
   renewed-or-same Look n = inr refl
   renewed-or-same Raise n = go (ℕ-discrete (x .cred .object) n)
     where
@@ -211,9 +212,6 @@ module _ (M : ℕ) (x : Fields) (l : Ledger) (p : Partition LedgerObject) where
   renewed-or-same LoadTable n = inr refl
 
 -- ---- bytes
-abbrev pub bytesIn : Partition LedgerObject → ℕ → List ℕ
-bytesIn p n = Option·getD (Option·map LedgerObject.bytes (find numberOf n (p .objects))) []
-
 found-bytes : {a b : Option LedgerObject} → a ≡ b
     → Option·getD (Option·map LedgerObject.bytes a) [] ≡ Option·getD (Option·map LedgerObject.bytes b) []
 found-bytes e = ap (λ (o : Option LedgerObject). Option·getD (Option·map LedgerObject.bytes o) []) e
@@ -232,12 +230,12 @@ bytes-written n a new p h =
 
 -- one that is neither written nor renewed
 pub bytes-same : (M : ℕ) (x : Fields) (l : Ledger) (p : Partition LedgerObject) (o : Operation) (n : ℕ)
-    → (Renewing o x n → ⊥) → ((a b : ℕ) → o ≡ Write a b → x .cred .object ≡ n → ⊥)
+    → (Renewing o x n → ⊥) → ((a b : ℕ) → o ≡ Write a b → targetOf (x .cred) (x .req) ≡ n → ⊥)
     → bytesIn (partitionAfter o M x l p) n ≡ bytesIn p n
 unfolding ledgerPerform ledgerWritten withBytesWritten ledgerRaised ledgerCreated ledgerDeleted
 bytes-same M x l p (Read a b) n r w = refl
 bytes-same M x l p (Write a b) n r w =
-    found-bytes (find-change-other numberOf (x .cred .object) n (withBytesWritten a (x .payload)) (λ h. refl) (w a b refl)
+    found-bytes (find-change-other numberOf (targetOf (x .cred) (x .req)) n (withBytesWritten a (x .payload)) (λ h. refl) (w a b refl)
     (p .objects))
 bytes-same M x l p Look n r w = refl
 bytes-same M x l p Raise n r w = go (x .cred .object is 0)

@@ -24,7 +24,7 @@ use Rattle.rules.specs.declared.Request.{Request}
 use Rattle.rules.specs.Client.{badRecords, buildRows, check, checkRows, frameOf, row30}
 use Rattle.rules.specs.Demands.{RepliesBack}
 use Rattle.rules.specs.Drive.{Drive, Partition, quarter, refresh, sound}
-use Rattle.rules.specs.Frame.{Fields, fields, operationOf, requestAt}
+use Rattle.rules.specs.Frame.{Fields, fields, operationOf, requestAt, targetOf}
 use Rattle.rules.specs.Gate.{Answer, Call, gate, granted}
 use Rattle.rules.specs.Operations.{
   credentialKey,
@@ -72,20 +72,21 @@ module _ (h res tail : List ℕ) (n : ℕ) (lh : length h ≡ 8) (lr : length re
   part-tail lt = rw (drop-at (h ++ res) tail (8 + n) front) (take-all 32 tail (omega arith))
 
 -- ---- a granted read lies inside the medium
-module _ {f : List ℕ} {s : Scope Object} {space : List ℕ} (g : Clear f s space) (k : SoundScope s) where
+module _ {f : List ℕ} {s : Scope Object} {m space : List ℕ} (g : Clear f s m space) (k : SoundScope s) where
   abbrev x : Fields
   x = fields f
 
-  pub sound-named : isTransfer (x .req) ≡ true → SoundObject (s .quarter) (s .partition .last) (objectOf s (x .cred))
+  pub sound-named : isTransfer (x .req) ≡ true
+      → SoundObject (s .quarter) (s .partition .last) (objectOf s (targetOf (x .cred) (x .req)))
   unfolding objectOf namedObject
   sound-named h =
       let p : Partition Object = s .partition in
-      let a = found Object.number (x .cred .object) (p .objects) (there g h) in
+      let a = found Object.number (targetOf (x .cred) (x .req)) (p .objects) (there g h) in
       subst (SoundObject (s .quarter) (p .last)) (ap (λ (o : Option Object). Option·getD o noObject) (sym (a .1)))
       (member-sound (partition-is (s .quarter) p k) (a .2))
 
   pub read-room : (M : ℕ) → s .quarter ≡ quarter M → isTransfer (x .req) ≡ true
-      → extentStart s (x .cred) + x .req .A + x .req .B ≤ M
+      → extentStart s (x .cred) (targetOf (x .cred) (x .req)) + x .req .A + x .req .B ≤ M
   unfolding extentStart
   read-room M e h =
       let n : ℕ = x .cred .partition in
@@ -115,7 +116,7 @@ module _
     g : firstRow (rows d m (c .frame) (c .clock) (c .space)) ≡ 0
     g = sym (gate-row d m c) ∙ a
 
-    ok : Clear (c .frame) u (c .space)
+    ok : Clear (c .frame) u m (c .space)
     ok = cleared d m (c .frame) (c .clock) (c .space) g
 
     sound-d : sound d ≡ true
@@ -125,7 +126,7 @@ module _
     unfolding refresh
     sound-u = at-sound (quarter (d .size)) (d .tables) (y .cred .partition) (tables-of d sound-d)
 
-    fits : isTransfer (y .req) ≡ true → extentStart u (y .cred) + y .req .A + y .req .B ≤ length m
+    fits : isTransfer (y .req) ≡ true → extentStart u (y .cred) (targetOf (y .cred) (y .req)) + y .req .A + y .req .B ≤ length m
     unfolding refresh
     fits h = omega (arith, read-room ok sound-u (d .size) refl h, size-is d m (c .frame) (c .clock) (c .space) g)
 
@@ -151,7 +152,7 @@ module _
     length-res =
         result-length u y m (known-operation ok .0) (known-operation ok .1)
         (λ a b o. let k = asks-for (y .req) (Read a b) o in
-        length-part m (extentStart u (y .cred) + a) b (omega (arith, k .1, k .2, fits (read-moves ok o))))
+        length-part m (extentStart u (y .cred) (targetOf (y .cred) (y .req)) + a) b (omega (arith, k .1, k .2, fits (read-moves ok o))))
 
     abbrev whole : List ℕ
     whole = reply (u .keys) y res

@@ -12,7 +12,7 @@ use Rattle.lemmas.specs.RowTable.{applies, firstRow, none-applies}
 use Rattle.lemmas.specs.Tests.{_is_, _isnt_, none-of, or-l, or-r}
 use Rattle.rules.specs.declared.Credential.{Credential}
 use Rattle.rules.specs.declared.Request.{Request}
-use Rattle.rules.specs.Client.{badRecords, build, buildRows, frameOf, recordFaults, row26}
+use Rattle.rules.specs.Client.{badRecords, build, buildRows, builtLength, frameOf, recordFaults, row26}
 use Rattle.rules.specs.Demands.{builtFrame, ReadsBack}
 use Rattle.digest.specs.Hmac.{hmac}
 use Rattle.digest.specs.DigestLaws.{length-hmac}
@@ -20,55 +20,84 @@ use Rattle.rules.specs.Frame.{
   covered,
   credential-in-front,
   credentialAt,
+  credentialBytes,
+  credentialLength,
   credentialSize,
-  dataStart,
   digestSize,
   Fields,
   fields,
+  length-credential,
   request-behind,
+  request-least,
   requestAt,
-  requestSize,
+  requestLength,
   requestStart,
+  startsBehind,
 }
 use Rattle.rules.specs.Rows.{frameRows, leastFrame, row2, row5}
 
--- ---- a frame put together from its parts has their fields
-module _ (credential request payload digest : List ℕ) (hc : length credential ≡ credentialSize)
-    (hr : length request ≡ requestSize) where
+-- ---- a credential's length by its form: the least of all forms, and that of the one that is issued
+pub credential-least : (c : Credential) → credentialSize ≤ credentialLength c
+unfolding credentialLength
+credential-least c = omega arith
+
+pub length-issued : (c : Credential) → length (credentialBytes c) ≡ credentialLength c
+unfolding credentialLength
+length-issued c = length-credential c
+
+-- ---- the fields of a frame whose request starts at place i
+abbrev fieldsFrom : ℕ → List ℕ → Fields
+fieldsFrom i f =
+    let r = requestAt f i in
+    record {
+      cred = credentialAt f 0;
+      req = r;
+      credential = part f 0 i;
+      request = part f i (requestLength r);
+      payload = part f (startsBehind i r .payload) (r .n);
+      digest = part f (startsBehind i r .digest) digestSize;
+    }
+
+-- ---- a frame put together from its parts has their fields. k: where its request starts
+module _ (credential request payload digest : List ℕ) (k : ℕ) (hk : credentialLength (credentialAt credential 0) ≡ k)
+    (hc : length credential ≡ k) (hr : length request ≡ requestLength (requestAt request 0)) where
   abbrev whole : List ℕ
   whole = credential ++ (request ++ (payload ++ digest))
 
   cred-same : credentialAt whole 0 ≡ credentialAt credential 0
-  cred-same = credential-in-front credential (request ++ (payload ++ digest)) (omega arith)
+  cred-same = credential-in-front credential (request ++ (payload ++ digest))
+      (omega (arith, hc, hk, credential-least (credentialAt credential 0)))
 
-  req-same : requestAt whole requestStart ≡ requestAt request 0
-  req-same = request-behind credential request (payload ++ digest) requestStart hc (omega arith)
+  start-is : requestStart whole ≡ k
+  start-is = ap credentialLength cred-same ∙ hk
 
-  -- the parts themselves
-  credential-part : part whole 0 credentialSize ≡ credential
+  req-same : requestAt whole k ≡ requestAt request 0
+  req-same = request-behind credential request (payload ++ digest) k hc (omega (arith, hr))
+
+  -- the parts themselves, the request being of n bytes and the data of j
+  credential-part : part whole 0 k ≡ credential
   unfolding part
-  credential-part = take-at credential (request ++ (payload ++ digest)) credentialSize hc
+  credential-part = take-at credential (request ++ (payload ++ digest)) k hc
 
-  request-part : part whole requestStart requestSize ≡ request
+  request-part : (n : ℕ) → length request ≡ n → part whole k n ≡ request
   unfolding part
-  request-part = rw (drop-at credential (request ++ (payload ++ digest)) requestStart hc)
-      (take-at request (payload ++ digest) requestSize hr)
+  request-part n h = rw (drop-at credential (request ++ (payload ++ digest)) k hc) (take-at request (payload ++ digest) n h)
 
-  behind : drop dataStart whole ≡ payload ++ digest
-  behind =
-      sym (drop-drop requestSize requestStart whole)
-      ∙ ap (drop requestSize) (drop-at credential (request ++ (payload ++ digest)) requestStart hc)
-      ∙ drop-at request (payload ++ digest) requestSize hr
+  behind : (n : ℕ) → length request ≡ n → drop (k + n) whole ≡ payload ++ digest
+  behind n h =
+      sym (drop-drop n k whole)
+      ∙ ap (drop n) (drop-at credential (request ++ (payload ++ digest)) k hc)
+      ∙ drop-at request (payload ++ digest) n h
 
-  payload-part : (n : ℕ) → length payload ≡ n → part whole dataStart n ≡ payload
+  payload-part : (n j : ℕ) → length request ≡ n → length payload ≡ j → part whole (k + n) j ≡ payload
   unfolding part
-  payload-part n h = rw behind (take-at payload digest n h)
+  payload-part n j h i = rw (behind n h) (take-at payload digest j i)
 
-  digest-part : (n : ℕ) → length payload ≡ n → length digest ≡ digestSize
-      → part whole (dataStart + n) digestSize ≡ digest
+  digest-part : (n j : ℕ) → length request ≡ n → length payload ≡ j → length digest ≡ digestSize
+      → part whole (k + n + j) digestSize ≡ digest
   unfolding part
-  digest-part n h l =
-      rw (sym (drop-drop n dataStart whole) ∙ ap (drop n) behind ∙ drop-at payload digest n h)
+  digest-part n j h i l =
+      rw (sym (drop-drop j (k + n) whole) ∙ ap (drop j) (behind n h) ∙ drop-at payload digest j i)
       (take-all digestSize digest (omega arith))
 
   -- all of it
@@ -82,15 +111,18 @@ module _ (credential request payload digest : List ℕ) (hc : length credential 
   }
   unfolding fields
   whole-fields l h =
-      let n : length payload ≡ requestAt whole requestStart .n = h ∙ ap Request.n (sym req-same) in
-      λ i. record {
+      let r : Request = requestAt whole k in
+      let n : length request ≡ requestLength r = hr ∙ ap requestLength (sym req-same) in
+      let j : length payload ≡ r .n = h ∙ ap Request.n (sym req-same) in
+      ap (λ (i : ℕ). fieldsFrom i whole) start-is
+      ∙ (λ i. record {
         cred = cred-same i;
         req = req-same i;
         credential = credential-part i;
-        request = request-part i;
-        payload = payload-part (requestAt whole requestStart .n) n i;
-        digest = digest-part (requestAt whole requestStart .n) n l i;
-      }
+        request = request-part (requestLength r) n i;
+        payload = payload-part (requestLength r) (r .n) n j i;
+        digest = digest-part (requestLength r) (r .n) n j l i;
+      })
 
 -- ---- what the builder accepts
 module _ (credential request payload key space : List ℕ)
@@ -113,25 +145,25 @@ module _ (credential request payload key space : List ℕ)
   unfolding buildRows applies
   records = or-l (badRecords credential request) (r .n isnt length payload) (clear 28)
 
-  n-is : length payload ≡ r .n
+  pub n-is : length payload ≡ r .n
   unfolding buildRows applies
   n-is = sym (eqb-true (r .n) (length payload) (not-false (r .n is length payload)
       (or-r (badRecords credential request) (r .n isnt length payload) (clear 28))))
 
-  pub frame-room : leastFrame + length payload ≤ length space
+  pub frame-room : builtLength credential request ≤ length space
   unfolding buildRows applies
-  frame-room = ltb-false (length space) (leastFrame + length payload) (clear 29)
+  frame-room = ltb-false (length space) (builtLength credential request) (clear 29)
 
   fault : (k : ℕ) → getD (recordFaults credential request) k false ≡ false
   unfolding badRecords
   fault k = none-of (recordFaults credential request) records k
 
-  pub credential-long : length credential ≡ credentialSize
-  credential-long = eqb-true (length credential) credentialSize
-      (not-false (length credential is credentialSize) (fault 0))
+  pub credential-long : length credential ≡ credentialLength c
+  credential-long = eqb-true (length credential) (credentialLength c)
+      (not-false (length credential is credentialLength c) (fault 0))
 
-  pub request-long : length request ≡ requestSize
-  request-long = eqb-true (length request) requestSize (not-false (length request is requestSize) (fault 1))
+  pub request-long : length request ≡ requestLength r
+  request-long = eqb-true (length request) (requestLength r) (not-false (length request is requestLength r) (fault 1))
 
   abbrev sealing : List ℕ
   sealing = hmac key (covered (r .level) credential request payload)
@@ -151,35 +183,37 @@ module _ (credential request payload key space : List ℕ)
 
   pub built-fields : fields f ≡ parts
   unfolding frameOf
-  built-fields = whole-fields credential request payload sealing credential-long request-long
+  built-fields = whole-fields credential request payload sealing (credentialLength c) refl credential-long request-long
       (length-hmac key (covered (r .level) credential request payload)) n-is
 
-  length-frame : length f ≡ leastFrame + length payload
+  starts : requestStart f ≡ credentialLength c
+  unfolding frameOf
+  starts = start-is credential request payload sealing (credentialLength c) refl credential-long request-long
+
+  length-frame : length f ≡ builtLength credential request
   unfolding frameOf
   length-frame =
       simp (length-append) (omega (
         arith,
         credential-long,
         request-long,
+        n-is,
         length-hmac key (covered (r .level) credential request payload),
       ))
 
   no-row : firstRow (frameRows f parts) ≡ 0
   unfolding frameRows firstRow
   no-row =
-      let h2 : row2 f ≡ false = le-ltb (length f) leastFrame (omega (arith, length-frame)) in
-      let h5 : row5 r f ≡ false = rw (
-        fault 4,
-        eq-eqb (length f) (leastFrame + r .n)
-            (length-frame ∙ ap (λ (n : ℕ). leastFrame + n) n-is),
-      ) refl in
+      let h2 : row2 f ≡ false =
+      le-ltb (length f) leastFrame (omega (arith, length-frame, request-least r, credential-least c)) in
+      let h5 : row5 r f ≡ false = rw (fault 4, starts, eq-eqb (length f) (builtLength credential request) length-frame) refl in
       rw (h2, fault 2, fault 3, h5, fault 5) refl
 
   written : builtFrame (build credential request payload key space) ≡ f
   unfolding build splice
   written =
       rw (eq-eqb (firstRow (buildRows credential request payload key space)) 0 g)
-      (take-at f (drop (0 + length f) space) (leastFrame + length payload) length-frame)
+      (take-at f (drop (0 + length f) space) (builtLength credential request) length-frame)
 
   pub reads-back : ReadsBack credential request payload key space
   reads-back = record {

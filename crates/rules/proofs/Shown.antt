@@ -1,27 +1,26 @@
 -- A granted read shows the ledger's bytes (`read-shown`), and the length of a reply (`answer-length`).
 use mathlib.Core.Path.{_∙_, _≡_, ap, refl, subst, sym}
 use mathlib.Core.Bool.{Bool, cond, false, true}
-use mathlib.Core.Option.{Option, Option·getD, Option·map}
 use mathlib.Core.List.{[], _++_, append-assoc, List}
 use Prim.Native.Nat.{_*_, _+_, _≤_, ℕ}
 use native.Mathlib.Omega.{arith}
 use lib.ListN.{length, length-append, take}
 use lib.Seq.{take-at}
 use Rattle.lemmas.specs.BigEndian.{bigEndian}
-use Rattle.lemmas.specs.Lists.{find, missing, part, splice}
+use Rattle.lemmas.specs.Lists.{missing, part, splice}
 use Rattle.lemmas.specs.Parts.{length-part, part-part}
 use Rattle.lemmas.specs.Tests.{_is_}
 use Rattle.rules.specs.declared.Entry.{Entry}
 use Rattle.rules.specs.declared.Object.{Object}
-use Rattle.rules.specs.Demands.{answer, bytesOf, callOperation, State}
+use Rattle.rules.specs.Demands.{answer, callOperation, State}
 use Rattle.digest.specs.Hmac.{hmac}
 use Rattle.digest.specs.DigestLaws.{length-hmac}
 use Rattle.rules.specs.Drive.{Keys, Partition, partitionAt, quarter}
 use Rattle.rules.specs.declared.Operation.{Operation}
 use Rattle.rules.specs.declared.Operation.the-variants.{Create, Delete, LoadTable, Look, Raise, Read, SetKey, Write}
-use Rattle.rules.specs.Frame.{Fields, fields, operationOf}
+use Rattle.rules.specs.Frame.{Fields, fields, operationOf, targetOf}
 use Rattle.rules.specs.Gate.{Call, granted}
-use Rattle.rules.specs.Ledger.{clocked, LedgerObject, Ledger, numberOf}
+use Rattle.rules.specs.Ledger.{bytesOf, clocked, LedgerObject, Ledger}
 use Rattle.rules.specs.Operations.{
   credentialKey,
   extentStart,
@@ -36,7 +35,7 @@ use Rattle.rules.specs.Operations.{
   sealed,
 }
 use Rattle.rules.specs.Scope.{Scope, driveScope}
-use Rattle.rules.proofs.Bare.{sees, the-ledger-object, the-object}
+use Rattle.rules.proofs.Bare.{sees, the-bytes, the-ledger-object, the-object}
 use Rattle.rules.proofs.Clear.{Asks, asks-for, in-object, known-operation, read-moves, there}
 use Rattle.rules.proofs.Holds.{Consistent, inside}
 use Rattle.rules.proofs.Step.{answer-granted, clear-of, fresh, fresh-inv, Invariant, row-zero, rowOf, sees-is}
@@ -48,19 +47,19 @@ in-reply x r after space = ap (take (length r)) (append-assoc r after _) ∙ tak
 
 -- the bytes read are the ledger's
 abbrev pub piece : Scope Object → Fields → List ℕ → ℕ → ℕ → List ℕ
-piece s x m a b = part m (extentStart s (x .cred) + a) b
+piece s x m a b = part m (extentStart s (x .cred) (targetOf (x .cred) (x .req)) + a) b
 
 read-bytes : (M : ℕ) (m : List ℕ) (l : Ledger) → Consistent M m l → (es : List Entry) (x : Fields) (a b : ℕ)
-    → missing (namedObject (sees M l es (x .cred)) (x .cred)) ≡ false
-    → a + b ≤ objectOf (sees M l es (x .cred)) (x .cred) .size
+    → missing (namedObject (sees M l es (x .cred)) (targetOf (x .cred) (x .req))) ≡ false
+    → a + b ≤ objectOf (sees M l es (x .cred)) (targetOf (x .cred) (x .req)) .size
     → (piece (sees M l es (x .cred)) x m a b ≡ part (bytesOf l x) a b)
     × (length (piece (sees M l es (x .cred)) x m a b) ≡ b)
 unfolding extentStart bytesOf objectOf namedObject
 read-bytes M m l g es x a b e fit = (
   ap (λ (o : Object). part m (p * quarter M + o .start + a) b) object
       ∙ sym (part-part m (p * quarter M + h .object .start) (h .object .size) a b fit′ room)
-      ∙ ap (λ (l : List ℕ). part l a b) (g .bytes p h (the-ledger-object here n e .2) ∙ sym held),
-  length-part m (extentStart (sees M l es (x .cred)) (x .cred) + a) b
+      ∙ ap (λ (l : List ℕ). part l a b) (g .bytes p h (the-ledger-object here n e .2) ∙ sym (the-bytes here n e)),
+  length-part m (extentStart (sees M l es (x .cred)) (x .cred) n + a) b
       (omega (arith, room, fit′, ap Object.start object)),
 )
   where
@@ -68,7 +67,7 @@ read-bytes M m l g es x a b e fit = (
     p = x .cred .partition
 
     n : ℕ
-    n = x .cred .object
+    n = targetOf (x .cred) (x .req)
 
     here : Partition LedgerObject
     here = partitionAt l p
@@ -76,7 +75,7 @@ read-bytes M m l g es x a b e fit = (
     h : LedgerObject
     h = the-ledger-object here n e .0
 
-    object : objectOf (sees M l es (x .cred)) (x .cred) ≡ h .object
+    object : objectOf (sees M l es (x .cred)) n ≡ h .object
     object = the-object here n e
 
     fit′ : a + b ≤ h .object .size
@@ -84,9 +83,6 @@ read-bytes M m l g es x a b e fit = (
 
     room : p * quarter M + h .object .start + h .object .size ≤ length m
     room = inside g p h (the-ledger-object here n e .2)
-
-    held : Option·getD (Option·map LedgerObject.bytes (find numberOf n (here .objects))) [] ≡ h .bytes
-    held = ap (λ (o : Option LedgerObject). Option·getD (Option·map LedgerObject.bytes o) []) (the-ledger-object here n e .1)
 
 module _ {M : ℕ} {s : State} {l : Ledger} (v : Invariant M s l) (c : Call) (r : answer s c .row ≡ 0) where
   abbrev x : Fields
@@ -105,8 +101,8 @@ module _ {M : ℕ} {s : State} {l : Ledger} (v : Invariant M s l) (c : Call) (r 
       subst (λ (t : Scope Object). (piece t x (s .medium) a b ≡ part (bytesOf l x) a b)
       × (length (piece t x (s .medium) a b) ≡ b)) (sym e)
       (read-bytes M (s .medium) (clocked (c .clock) l) (fresh-inv v c .consistent) (scope .memory) x a b
-      (subst (λ (t : Scope Object). missing (namedObject t (x .cred)) ≡ false) e (there k (read-moves k o)))
-      (subst (λ (t : Scope Object). a + b ≤ objectOf t (x .cred) .size) e
+      (subst (λ (t : Scope Object). missing (namedObject t (targetOf (x .cred) (x .req))) ≡ false) e (there k (read-moves k o)))
+      (subst (λ (t : Scope Object). a + b ≤ objectOf t (targetOf (x .cred) (x .req)) .size) e
       (omega (arith, n .1, n .2, in-object k (read-moves k o)))))
 
   pub read-shown : (a b : ℕ) → callOperation c ≡ Read a b → part (answer s c .space) 8 b ≡ part (bytesOf l x) a b

@@ -132,7 +132,7 @@ module _ {M : ℕ} {s : State} {l : Ledger} (v : Invariant M s l) (c : Call) whe
   pub sees-is : driveScope (fresh s c) (x .cred) ≡ sees M now entries (x .cred)
   sees-is = scope-is fresh-inv x
 
-  pub clear-of : rowOf s c ≡ 0 → Clear (c .frame) (driveScope (fresh s c) (x .cred)) (c .space)
+  pub clear-of : rowOf s c ≡ 0 → Clear (c .frame) (driveScope (fresh s c) (x .cred)) (s .medium) (c .space)
   clear-of g = cleared (s .drive) (s .medium) (c .frame) (c .clock) (c .space) g
 
   pub the-grant : rowOf s c ≡ 0 → Grant (callOperation c) (sees M now entries (x .cred)) x

@@ -111,7 +111,7 @@ module _ (d : Drive) (m : List ℕ) (c : Call) where
       go : (row1 d m ≡ true) ⊎ (row1 d m ≡ false) → row1 d m ≡ false
       go (inl e) =
           let k : _≡_ {A = ℕ} 1 20 =
-          sym (row-here (line 1 (row1 d m)) (frameRows (c .frame) x ++ driveRows (driveScope fresh (x .cred)) x (c .space)) e) ∙ h in
+          sym (row-here (line 1 (row1 d m)) (frameRows (c .frame) x ++ driveRows (driveScope fresh (x .cred)) m x (c .space)) e) ∙ h in
           absurd (let z : ⊥ = omega arith in z)
       go (inr e) = e
 
@@ -138,7 +138,7 @@ module _ (d : Drive) (m : List ℕ) (c : Call) where
     joins = joins;
   }
     where
-      k : Clear (c .frame) (driveScope fresh (x .cred)) (c .space)
+      k : Clear (c .frame) (driveScope fresh (x .cred)) m (c .space)
       k = cleared d m (c .frame) (c .clock) (c .space) g
 
       start : ℕ

@@ -17,15 +17,14 @@ use Rattle.rules.specs.declared.Operation.{Operation}
 use Rattle.rules.specs.declared.Operation.the-variants.{Write}
 use Rattle.rules.specs.Frame.{Fields, operation, operationOf}
 use Rattle.rules.specs.Gate.{Call}
-use Rattle.rules.specs.Ledger.{clocked, Fed, feed, LedgerObject, Ledger, ledger, ledgerPerform, ledgerStart, ledgerWritten}
-use Rattle.rules.specs.Story.{fedFields, Gives, lastOf, OfEveryList, Renewing, Renews, versionIn, versionOf, writes}
+use Rattle.rules.specs.Ledger.{bytesIn, clocked, Fed, feed, LedgerObject, Ledger, ledger, ledgerPerform, ledgerStart, ledgerWritten}
+use Rattle.rules.specs.Story.{fedFields, Gives, lastOf, OfEveryList, Renewing, Renews, versionIn, versionOf, writes, reached}
 use Rattle.rules.proofs.Clear.{asks-for}
 use Rattle.rules.proofs.Demand.{format-inv}
 use Rattle.rules.proofs.Passed.{Affected, affected-or-not, in-time, Passed, passed, Unaffected}
 use Rattle.rules.proofs.Renewal.{
   bytes-same,
   bytes-written,
-  bytesIn,
   CanRenew,
   partitionAfter,
   given-next,
@@ -183,7 +182,7 @@ module _ (M : ℕ) {l : Ledger} {c : Fed} (f : FedCall l c) where
   -- a granted write to object n of partition p, taken apart
   abbrev Writes : ℕ → ℕ → Type 0
   Writes p n = (c .row ≡ 0) × (operationOf x ≡ Write (x .req .A) (x .req .B)) × (x .cred .partition ≡ p)
-      × (x .cred .object ≡ n)
+      × (reached c ≡ n)
 
   writes-is : (p n : ℕ) → writes p n c ≡ true → Writes p n
   unfolding operation
@@ -191,14 +190,14 @@ module _ (M : ℕ) {l : Ledger} {c : Fed} (f : FedCall l c) where
     eqb-true (c .row) 0 (search (and-l, and-r)),
     rw (eqb-true (x .req .operation) 2 (search (and-l, and-r))) refl,
     eqb-true (x .cred .partition) p (search (and-l, and-r)),
-    eqb-true (x .cred .object) n (search (and-l, and-r)),
+    eqb-true (reached c) n (search (and-l, and-r)),
   )
 
-  is-writes : (p n a b : ℕ) → c .row ≡ 0 → operationOf x ≡ Write a b → x .cred .partition ≡ p → x .cred .object ≡ n
+  is-writes : (p n a b : ℕ) → c .row ≡ 0 → operationOf x ≡ Write a b → x .cred .partition ≡ p → reached c ≡ n
       → writes p n c ≡ true
   is-writes p n a b r o i j =
       both (both (both (eq-eqb (c .row) 0 r) (eq-eqb (x .req .operation) 2 (asks-for (x .req) (Write a b) o .0)))
-      (eq-eqb (x .cred .partition) p i)) (eq-eqb (x .cred .object) n j)
+      (eq-eqb (x .cred .partition) p i)) (eq-eqb (reached c) n j)
 
   -- an object that is not renewed changes by the call's write, if it is one to it
   pub bytes-step : (p n : ℕ) → (Renews p n c → ⊥)
@@ -210,9 +209,9 @@ module _ (M : ℕ) {l : Ledger} {c : Fed} (f : FedCall l c) where
       wrote h w =
           ap (λ (q : Partition LedgerObject). bytesIn q n) (h .effect)
           ∙ ap (λ (o : Operation). bytesIn (partitionAfter o M x now (partitionAt l p)) n) (w .1)
-          ∙ subst₂ (λ (q k : ℕ). bytesIn (ledgerWritten (x .cred .object) (x .req .A) (x .payload) (partitionAt l q)) k
+          ∙ subst₂ (λ (q k : ℕ). bytesIn (ledgerWritten (reached c) (x .req .A) (x .payload) (partitionAt l q)) k
           ≡ splice (bytesAt l q k) (x .req .A) (x .payload)) (w .2) (w .3)
-          (bytes-written (x .cred .object) (x .req .A) (x .payload) (partitionAt l (x .cred .partition))
+          (bytes-written (reached c) (x .req .A) (x .payload) (partitionAt l (x .cred .partition))
           (f .passes (w .0) .writes (x .req .A) (x .req .B) (w .1)))
 
       go : Affected M l c p ⊎ Unaffected M l c p → (writes p n c ≡ true) ⊎ (writes p n c ≡ false)

@@ -12,16 +12,18 @@ use Rattle.rules.specs.Frame.{
   covered,
   credentialAt,
   credentialBytes,
+  credentialLength,
   credentialMagic,
   credentialSize,
   digestSize,
+  frameLength,
   keySize,
   requestAt,
-  requestSize,
+  requestLength,
 }
 use Rattle.rules.specs.Needs.{defaultNeed}
 use Rattle.rules.specs.Operations.{head, headSize, reply, replyCovered, replyLength, resultLength}
-use Rattle.rules.specs.Rows.{leastFrame, lowLevel, outsideCredential, row3, row4, row6, wrongData}
+use Rattle.rules.specs.Rows.{lowLevel, outsideCredential, row3, row4, row6, wrongData}
 
 -- 26. "a key lent is not 32 bytes"
 abbrev pub row26 : List ℕ → Bool
@@ -49,14 +51,15 @@ issue c key space =
     (record { row = 0; key = hmac key (credentialBytes c); space = splice space 0 (credentialBytes c) })
     (record { row = row; key = replicate keySize 0; space = space })
 
--- ---- 28. builder and reply check: "a record not 36 or 28 bytes long, or one of rows 3–7 met by the records".
+-- ---- 28. builder and reply check: "a record not 36 or 28 bytes long, or one of rows 3–7 met by the records";
+-- change 6 of document 02: a group's request has "32 bytes, in rows 5 and 28 too".
 -- Change 5 of document 02: "row 7 at the client end" keeps "document 01's rule, operation 8 treated as 7"
 abbrev pub recordFaults : List ℕ → List ℕ → List Bool
 recordFaults credential request =
     let c = credentialAt credential 0 in
     let r = requestAt request 0 in
-    (length credential isnt credentialSize)
-    ∷ (length request isnt requestSize)
+    (length credential isnt credentialLength c)
+    ∷ (length request isnt requestLength r)
     ∷ row3 c r
     ∷ row4 c r
     ∷ wrongData r
@@ -77,12 +80,16 @@ unfoldable pub frameOf : List ℕ → List ℕ → List ℕ → List ℕ → Lis
 frameOf credential request payload key =
     credential ++ (request ++ (payload ++ hmac key (covered (requestAt request 0 .level) credential request payload)))
 
+-- how long it is
+abbrev pub builtLength : List ℕ → List ℕ → ℕ
+builtLength credential request = frameLength (credentialLength (credentialAt credential 0)) (requestAt request 0)
+
 unfoldable pub buildRows : List ℕ → List ℕ → List ℕ → List ℕ → List ℕ → List Row
 buildRows credential request payload key space =
     line 26 (row26 key)
     -- "for the builder also n not the data's length"
     ∷ line 28 (badRecords credential request || requestAt request 0 .n isnt length payload)
-    ∷ line 29 (length space under leastFrame + length payload)
+    ∷ line 29 (length space under builtLength credential request)
     ∷ []
 
 unfoldable pub build : List ℕ → List ℕ → List ℕ → List ℕ → List ℕ → Built
@@ -91,7 +98,7 @@ build credential request payload key space =
     cond (row is 0)
     (record {
       row = 0;
-      length = leastFrame + length payload;
+      length = builtLength credential request;
       space = splice space 0 (frameOf credential request payload key);
     })
     (record { row = row; length = 0; space = space })

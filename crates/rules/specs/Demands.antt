@@ -4,11 +4,11 @@
 use mathlib.Core.Path.{_≡_}
 use mathlib.Core.Logic.{_↔_, _⊎_}
 use mathlib.Core.Bool.{false, true}
-use mathlib.Core.Option.{Option·getD, Option·map, some}
+use mathlib.Core.Option.{some}
 use mathlib.Core.List.{[], _++_, _∷_, List, List·Memᴰ}
 use Prim.Native.Nat.{_*_, _+_, _<_, _≤_, ℕ}
 use lib.ListN.{getD, take, length}
-use Rattle.lemmas.specs.Lists.{find, keep, part}
+use Rattle.lemmas.specs.Lists.{keep, part}
 use Rattle.lemmas.specs.RowTable.{clear, firstRow, line}
 use Rattle.rules.specs.declared.Credential.{Credential}
 use Rattle.rules.specs.declared.Entry.{Entry}
@@ -23,19 +23,20 @@ use Rattle.rules.specs.Frame.{covered, credentialAt, credentialBytes, Cr
 use Rattle.rules.specs.Gate.{Answer, Call, gate, granted, wholeAnswer}
 use Rattle.rules.specs.Ledger.{
   bareScope,
+  bytesOf,
   clocked,
   Fed,
   LedgerObject,
   Ledger,
   ledger,
+  ledgerGroup,
   ledgerScope,
-  numberOf,
   tablesOf,
   ledgerStart,
 }
 use Rattle.rules.specs.Operations.{credentialKey, headSize, keyIn, resultLength, perform}
 use Rattle.rules.specs.Scope.{driveScope, Scope}
-use Rattle.rules.specs.Rows.{bounds, frameRows, gateRows, lowLevel, row1, row7, row8, row9, rows, scopeRows}
+use Rattle.rules.specs.Rows.{bounds, frameRows, gateRows, groupBytes, lowLevel, row1, row7, row8, row9, rows, scopeRows}
 
 -- ---- the gate grants exactly when no row applies, and a grant is the one that the rules give
 pub record Exact (d : Drive) (m : List ℕ) (c : Call) : Type 0 where
@@ -94,7 +95,8 @@ pub record Authentic (c : Credential) (slotKey frame : List ℕ) : Type 0 where
       → gate d m call .row ≡ firstRow (line 1 (row1 d m)
       ∷ line 7 (row7 (driveScope (refresh (call .clock) d) (fields frame .cred)) (fields frame .cred) (fields frame .req))
       ∷ scopeRows (driveScope (refresh (call .clock) d) (fields frame .cred)) (fields frame .cred) (fields frame .req)
-      (fields frame .payload) (length (call .space)))
+      (fields frame .payload) (groupBytes (driveScope (refresh (call .clock) d) (fields frame .cred)) (fields frame .cred) m)
+      (length (call .space)))
 
 -- "What the builder writes, the gate reads as the same fields."
 -- the frame that a builder wrote: the first bytes of its space, as many as it says
@@ -179,11 +181,6 @@ pub record Nonce : Type 0 where
 unfoldable pub nonce : Call → Nonce
 nonce c = record { memory = memoryIndex (fields (c .frame) .cred); entry = entry (fields (c .frame) .cred) (fields (c .frame) .req) }
 
--- the bytes of the ledger's object that a frame names
-unfoldable pub bytesOf : Ledger → Fields → List ℕ
-bytesOf l x = Option·getD (Option·map LedgerObject.bytes
-    (find numberOf (x .cred .object) (partitionAt l (x .cred .partition) .objects))) []
-
 -- where an object of partition p lies on a medium of M bytes
 abbrev pub extentFrom : ℕ → ℕ → Object → ℕ
 extentFrom M p a = p * quarter M + a .start
@@ -240,14 +237,16 @@ pub record Demand3 (M : ℕ) (s : State) (l : Ledger) (calls : List Call) : Type
   -- "Each grant is within its credential's rights, expiry and .. range.
   -- It is under the key and .. the version that the format or earlier grants put there":
   -- rows 8–10 and 13–17, by the ledger before the call with the mark that this call sets.
-  -- Change 5 of document 02: "a grant keeps to the table that earlier grants loaded, which the ledger holds too": row 7 as well
+  -- Change 5 of document 02: "a grant keeps to the table that earlier grants loaded, which the ledger holds too": row 7 as well.
+  -- Change 6: "Demand 3 judges rows 32 to 34 as well", by the ledger's own bytes of the group
   pub kept : (before later : List Call) (c : Call)
       → calls ≡ before ++ (c ∷ later)
       → Granted s before c
-      → firstRow (bounds (bareScope (ledgerScope M (clocked (c .clock) (ledgerAfterCalls M s l before)) (callFields c .cred))) (callFields c)) ≡ 0
+      → let t = ledgerScope M (clocked (c .clock) (ledgerAfterCalls M s l before)) (callFields c .cred) in
+      firstRow (bounds (bareScope t) (ledgerGroup t (callFields c .cred)) (callFields c)) ≡ 0
   -- "Each granted read shows, for every byte,
   -- exactly the last granted write to it since that object's creation, or zero":
-  -- after the reply's head, the bytes from A up to A + B of the ledger's object
+  -- after the reply's head, the bytes from A up to A + B of the ledger's object, under a group credential of the member
   pub shown : (before later : List Call) (c : Call) (A B : ℕ)
       → calls ≡ before ++ (c ∷ later)
       → Granted s before c

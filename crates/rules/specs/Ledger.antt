@@ -1,19 +1,19 @@
 -- Document 01, "The ledger of demand 3": what it holds, how it starts, what each call does to it.
 -- M: the medium's size.
 use mathlib.Core.Bool.{cond}
-use mathlib.Core.Option.{some}
+use mathlib.Core.Option.{Option·getD, Option·map, some}
 use mathlib.Core.List.{List, [], _∷_, _++_, map}
 use Prim.Native.Nat.{ℕ}
 use lib.ListN.{replicate}
 use Rattle.lemmas.specs.Tests.{_is_, _isnt_}
-use Rattle.lemmas.specs.Lists.{splice, keep, change}
+use Rattle.lemmas.specs.Lists.{splice, keep, find, change}
 use Rattle.rules.specs.declared.Credential.{Credential}
 use Rattle.rules.specs.declared.Object.{Object}
 use Rattle.rules.specs.declared.Operation.{Operation}
 use Rattle.rules.specs.declared.Operation.the-variants.{Read, Write, Look, Raise, Create, Delete, SetKey, LoadTable}
-use Rattle.rules.specs.Frame.{Fields, fields, operationOf}
+use Rattle.rules.specs.Frame.{Fields, fields, operationOf, targetOf}
 use Rattle.rules.specs.Needs.{needsAt}
-use Rattle.rules.specs.Drive.{Partition, partitionWith, Tables, withHighWater, newTables, quarter, newHighWater}
+use Rattle.rules.specs.Drive.{Partition, partitionAt, partitionWith, Tables, withHighWater, newTables, quarter, newHighWater}
 use Rattle.rules.specs.Scope.{Scope, withPartition, withKeys, tablesScope, withScope}
 use Rattle.rules.specs.Operations.{placementStart, nextVersion, withVersion, keySet, withNeeds}
 
@@ -50,13 +50,25 @@ bareScope s = record {
   memory = s .memory;
 }
 
+-- the bytes of the object numbered n in a partition; of the object that a credential names, whose list rows 32 and 33 judge; and
+-- of the one that a frame reads, writes or looks at. Change 6 of document 02: "the granted writes that a read shows are the
+-- member's, in the ledger too"
+abbrev pub bytesIn : Partition LedgerObject → ℕ → List ℕ
+bytesIn p n = Option·getD (Option·map LedgerObject.bytes (find numberOf n (p .objects))) []
+
+abbrev pub ledgerGroup : Scope LedgerObject → Credential → List ℕ
+ledgerGroup s c = bytesIn (s .partition) (c .object)
+
+unfoldable pub bytesOf : Ledger → Fields → List ℕ
+bytesOf l x = bytesIn (partitionAt l (x .cred .partition)) (targetOf (x .cred) (x .req))
+
 -- ---- "Start: mark 0; master and drive key set, no other; each partition's version and last given are F; no object."
 -- Each operation table "starts .. as document 01's rule"
 unfoldable pub ledgerStart : ℕ → List ℕ → List ℕ → Ledger
 ledgerStart F master drive = newTables F (some master) (some drive)
 
 -- ---- what a grant does
--- "2: the data replaces the object's bytes from A up to A + B."
+-- "2: the data replaces the object's bytes from A up to A + B"; under a group credential, the member's
 unfoldable pub withBytesWritten : ℕ → List ℕ → LedgerObject → LedgerObject
 withBytesWritten offset new h = record { object = h .object; bytes = splice (h .bytes) offset new }
 
@@ -88,7 +100,8 @@ ledgerDeleted n p = partitionWith (p .version) (p .last) (keep (λ (h : LedgerOb
 -- "1, 3: nothing." "7: keys change by operation 7, from the ledger's signing key." 8: the data is the partition's table
 unfoldable pub ledgerPerform : Operation → Scope LedgerObject → Fields → Scope LedgerObject
 ledgerPerform (Read offset length) s x = s
-ledgerPerform (Write offset length) s x = withPartition (ledgerWritten (x .cred .object) offset (x .payload) (s .partition)) s
+ledgerPerform (Write offset length) s x =
+    withPartition (ledgerWritten (targetOf (x .cred) (x .req)) offset (x .payload) (s .partition)) s
 ledgerPerform Look s x = s
 ledgerPerform Raise s x = withPartition (ledgerRaised (x .cred .object) (s .partition)) s
 ledgerPerform (Create number size) s x = withPartition (ledgerCreated number size (placementStart (bareScope s) size) (s .partition)) s

@@ -6,7 +6,7 @@ use mathlib.Core.Path.{_≡_}
 use mathlib.Core.Logic.{_↔_}
 use mathlib.Core.Bool.{_&&_, _||_, Bool, false, not, true}
 use mathlib.Core.List.{List}
-use Prim.Native.Nat.{_%_, _-_, _/_, _<_, _^_, _≤_, ℕ}
+use Prim.Native.Nat.{_-_, _<_, _≤_, ℕ}
 use lib.ListN.{length}
 use Rattle.lemmas.specs.Tests.{_is_, _under_}
 use Rattle.rules.specs.declared.Credential.{Credential}
@@ -16,6 +16,7 @@ use Rattle.rules.specs.declared.Operation.the-variants.{LoadTable}
 use Rattle.rules.specs.declared.Request.{Request}
 use Rattle.rules.specs.Demands.{after, callFields, callOperation}
 use Rattle.rules.specs.Drive.{Drive, format, partitionAt}
+use Rattle.rules.specs.Frame.{bit}
 use Rattle.rules.specs.Gate.{Call, gate}
 use Rattle.rules.specs.Needs.{defaultNeed, defaultNeeds, goodNeeds, needsAt}
 use Rattle.rules.specs.Rows.{lacksRight, lowLevel, needOf, row13, row7}
@@ -26,10 +27,7 @@ use Rattle.rules.specs.Scope.{Scope}
 abbrev pub row7Before : Credential → Request → Bool
 row7Before c r = r .level under c .least || (r .level is 0 && r .operation is 7)
 
--- 13. "The right is missing." "Operation k needs rights bit k − 1"; bits count from the lowest
-abbrev pub bit : ℕ → ℕ → Bool
-bit k n = n / 2 ^ k % 2 is 1
-
+-- 13. "The right is missing." "Operation k needs rights bit k − 1"
 abbrev pub row13Before : Credential → Request → Bool
 row13Before c r = not (bit (r .operation - 1) (c .rights))
 

@@ -17,7 +17,7 @@ use Rattle.rules.specs.declared.Entry.{Entry}
 use Rattle.rules.specs.declared.Need.{Need}
 use Rattle.rules.specs.declared.Operation.{Operation}
 use Rattle.rules.specs.declared.Operation.the-variants.{Read, Write, Look, Raise, Create, Delete, SetKey, LoadTable}
-use Rattle.rules.specs.Frame.{Fields, covered, entry, digestSize}
+use Rattle.rules.specs.Frame.{Fields, covered, entry, digestSize, targetOf}
 use Rattle.rules.specs.Needs.{needsAt}
 use Rattle.rules.specs.Drive.{Partition, partitionWith, Key, Keys}
 use Rattle.rules.specs.Scope.{Scope, withPartition, withKeys}
@@ -41,29 +41,32 @@ credentialKey k x = hmac (signing k x) (x .credential)
 unfoldable pub digestOf : Keys → Fields → List ℕ
 digestOf k x = hmac (credentialKey k x) (covered (x .req .level) (x .credential) (x .request) (x .payload))
 
--- the object in its partition
-unfoldable pub namedObject : Scope Object → Credential → Option Object
-namedObject s c = find Object.number (c .object) (s .partition .objects)
+-- the object numbered n in the partition
+unfoldable pub namedObject : Scope Object → ℕ → Option Object
+namedObject s n = find Object.number n (s .partition .objects)
 
 abbrev pub noObject : Object
 noObject = record { number = 0; version = 0; size = 0; start = 0 }
 
-unfoldable pub objectOf : Scope Object → Credential → Object
-objectOf s c = Option·getD (namedObject s c) noObject
+unfoldable pub objectOf : Scope Object → ℕ → Object
+objectOf s n = Option·getD (namedObject s n) noObject
 
--- the present version and the size: object 0 means the partition
-unfoldable pub presentVersion : Scope Object → Credential → ℕ
-presentVersion s c = cond (c .object is 0) (s .partition .version) (objectOf s c .version)
+-- its present version and its size: object 0 means the partition
+unfoldable pub presentVersion : Scope Object → ℕ → ℕ
+presentVersion s n = cond (n is 0) (s .partition .version) (objectOf s n .version)
 
-abbrev pub sizeOf : Scope Object → Credential → ℕ
-sizeOf s c = cond (c .object is 0) (s .quarter) (objectOf s c .size)
+abbrev pub sizeOf : Scope Object → ℕ → ℕ
+sizeOf s n = cond (n is 0) (s .quarter) (objectOf s n .size)
 
--- where the quarter starts on the medium, and where the object's area does
+-- where the quarter starts on the medium, where the object's area does, and the bytes of that area
 abbrev pub quarterStart : Scope Object → Credential → ℕ
 quarterStart s c = c .partition * s .quarter
 
-unfoldable pub extentStart : Scope Object → Credential → ℕ
-extentStart s c = quarterStart s c + objectOf s c .start
+unfoldable pub extentStart : Scope Object → Credential → ℕ → ℕ
+extentStart s c n = quarterStart s c + objectOf s n .start
+
+unfoldable pub extentBytes : Scope Object → Credential → ℕ → List ℕ → List ℕ
+extentBytes s c n m = part m (extentStart s c n) (objectOf s n .size)
 
 -- where a new area of so many bytes starts in its quarter
 unfoldable pub placement : Scope Object → ℕ → Option ℕ
@@ -164,14 +167,18 @@ pub record Performed : Type 0 where
 abbrev pub performed : List ℕ → Scope Object → List ℕ → Performed
 performed result s m = record { result = result; scope = s; medium = m }
 
--- operation by operation
+-- operation by operation; 1 to 3 of the frame's target, which is a group's member or the credential's own object
 unfoldable pub perform : Operation → Scope Object → Fields → List ℕ → Performed
 -- 1. Read: "result the B bytes"
-perform (Read offset length) s x m = performed (part m (extentStart s (x .cred) + offset) length) s m
+perform (Read offset length) s x m =
+    performed (part m (extentStart s (x .cred) (targetOf (x .cred) (x .req)) + offset) length) s m
 -- 2. Write: the data replaces the object's bytes from A on; "Result empty"
-perform (Write offset length) s x m = performed [] s (splice m (extentStart s (x .cred) + offset) (x .payload))
+perform (Write offset length) s x m =
+    performed [] s (splice m (extentStart s (x .cred) (targetOf (x .cred) (x .req)) + offset) (x .payload))
 -- 3. Look: "size (the quarter's for object 0) and version, four bytes each"
-perform Look s x m = performed (bigEndian 4 (sizeOf s (x .cred)) ++ bigEndian 4 (presentVersion s (x .cred))) s m
+perform Look s x m =
+    let n = targetOf (x .cred) (x .req) in
+    performed (bigEndian 4 (sizeOf s n) ++ bigEndian 4 (presentVersion s n)) s m
 -- 4. Raise: "object or partition gets the next version; result that version in four bytes"
 perform Raise s x m =
     performed (bigEndian 4 (nextVersion (s .partition))) (withPartition (raised (x .cred .object) (s .partition)) s) m

@@ -1,6 +1,7 @@
--- Document 01, "Why the drive says no", rows 1 to 23, and row 31 of document 02: each row's test under the documents'
+-- Document 01, "Why the drive says no", rows 1 to 23, and rows 31 to 34 of document 02: each row's test under the documents'
 -- words, then one table. Change 5 of document 02: "Rows 4 to 7 and 13 read accordingly".
--- f: the frame. c, r: the numbers of its credential and request. x: its fields. s: its scope.
+-- f: the frame. c, r: the numbers of its credential and request. x: its fields. s: its scope. m: the medium.
+-- group: the bytes of the object that the credential names.
 use mathlib.Core.Bool.{Bool, not, _&&_, _||_, cond}
 use mathlib.Core.List.{List, [], _∷_, _++_}
 use Prim.Native.Nat.{ℕ, _+_}
@@ -14,35 +15,56 @@ use Rattle.rules.specs.declared.Credential.{Credential}
 use Rattle.rules.specs.declared.Request.{Request}
 use Rattle.rules.specs.declared.Object.{Object}
 use Rattle.rules.specs.declared.Need.{Need}
-use Rattle.rules.specs.Frame.{credentialMagic, requestMagic, Fields, fields, entry}
+use Rattle.rules.specs.Frame.{
+  credentialMagic,
+  entry,
+  Fields,
+  fields,
+  frameLength,
+  isGroupCredential,
+  isGroupRequest,
+  requestMagic,
+  requestStart,
+  targetOf,
+}
 use Rattle.rules.specs.Needs.{needUnder, needsSize, needsAt, goodNeeds}
 use Rattle.rules.specs.Drive.{Drive, lastVersion, mostObjects, mostEntries, sound, timeWindow, sameEntry, refresh}
 use Rattle.rules.specs.Scope.{Scope, driveScope}
-use Rattle.rules.specs.Operations.{keyIn, digestOf, namedObject, objectOf, presentVersion, placement, replyLength}
+use Rattle.rules.specs.Operations.{
+  digestOf,
+  extentBytes,
+  keyIn,
+  namedObject,
+  objectOf,
+  placement,
+  presentVersion,
+  replyLength,
+}
+use Rattle.rules.specs.Group.{isGroupList, lists}
 
 -- 1. "The drive record is not sound .., or the medium lent is not M bytes long."
 unfoldable pub row1 : Drive → List ℕ → Bool
 row1 d m = not (sound d) || length m isnt d .size
 
--- 2. "The frame is under 96 bytes."
+-- 2. "The frame is under 96 bytes." Change 6 of document 02: "row 2 keeps 96 for every form"
 abbrev pub leastFrame : ℕ
 leastFrame = 96
 
 abbrev pub row2 : List ℕ → Bool
 row2 f = length f under leastFrame
 
--- 3. "Bytes 0–1 or 36–37 are not the marks."
+-- 3. "Bytes 0–1 or 36–37 are not the marks." A request has one of two
 abbrev pub row3 : Credential → Request → Bool
-row3 c r = c .magic isnt credentialMagic || r .magic isnt requestMagic
+row3 c r = c .magic isnt credentialMagic || not (r .magic is requestMagic || isGroupRequest r)
 
 -- 4. "A field is outside the values above, including rights bits 7–15 set and slot 3 or 4 with partition not 0."
--- Operations are 1 to 8
+-- Operations are 1 to 8; "Rights bit 7, now allowed by row 4"
 abbrev pub credentialFaults : Credential → List Bool
 credentialFaults c =
     (c .partition over 3)
     ∷ (c .slot over 4)
     ∷ (c .slot over 2 && c .partition isnt 0)
-    ∷ (c .rights over 127)
+    ∷ (c .rights over 255)
     ∷ (c .least over 2)
     ∷ (c .zero isnt 0)
     ∷ []
@@ -63,7 +85,7 @@ abbrev pub row4 : Credential → Request → Bool
 row4 c r = outsideCredential c || outsideRequest r
 
 -- 5. "n is not 0 for operations 1 and 3–6, B for 2, 16 for 7,
--- or the frame is not as long as its parts together, 96 + n bytes." And 21 for 8
+-- or the frame is not as long as its parts together, 96 + n bytes." And 21 for 8; a group's request has four bytes more
 abbrev pub dataLength : Request → ℕ
 dataLength r = cond (r .operation is 2) (r .B) (cond (r .operation is 7) 16 (cond (r .operation is 8) needsSize 0))
 
@@ -71,13 +93,14 @@ abbrev pub wrongData : Request → Bool
 wrongData r = r .n isnt dataLength r
 
 abbrev pub row5 : Request → List ℕ → Bool
-row5 r f = wrongData r || length f isnt leastFrame + r .n
+row5 r f = wrongData r || length f isnt frameLength (requestStart f) r
 
 -- 6. "Operation misfits: 1–6 with slot over 1; 7 with slot under 2 or version not 0;
 -- 1, 2, 6 on object 0; 5, 7 elsewhere;
 -- 3, 4, 6 with A or B not 0; 5 with A or B 0;
 -- 7 with B not 0, or A over 1, 3, 0 for slots 2, 3, 4."
--- And operation 8 unless "slot 2 ..; object, version, A and B 0"
+-- And operation 8 unless "slot 2 ..; object, version, A and B 0".
+-- Of a group credential: "operations over 3, object 0, and such a credential with a 4C 52 request or the reverse"
 abbrev pub misfits : Credential → Request → List Bool
 misfits c r =
     (r .operation under 7 && c .slot over 1)
@@ -91,6 +114,10 @@ misfits c r =
     ∷ (r .operation is 7 && c .slot is 3 && r .A over 3)
     ∷ (r .operation is 7 && c .slot is 4 && r .A over 0)
     ∷ (r .operation is 8 && (c .slot isnt 2 || c .object isnt 0 || c .version isnt 0 || r .A isnt 0 || r .B isnt 0))
+    ∷ (isGroupCredential c && r .operation over 3)
+    ∷ (isGroupCredential c && c .object is 0)
+    ∷ (isGroupCredential c && not (isGroupRequest r))
+    ∷ (not (isGroupCredential c) && isGroupRequest r)
     ∷ []
 
 abbrev pub row6 : Credential → Request → Bool
@@ -144,11 +171,23 @@ row13 s c r = lacksRight (needOf s c r) c
 
 -- 14. "The object, not 0, does not exist in the partition."
 unfoldable pub row14 : Scope Object → Credential → Bool
-row14 s c = c .object isnt 0 && missing (namedObject s c)
+row14 s c = c .object isnt 0 && missing (namedObject s (c .object))
 
--- 15. "Operations 1–6: the version is not the present one."
+-- 15. "Operations 1–6: the version is not the present one." Change 6 of document 02: "Version is the group object's"
 unfoldable pub row15 : Scope Object → Credential → Request → Bool
-row15 s c r = r .operation under 7 && c .version isnt presentVersion s c
+row15 s c r = r .operation under 7 && c .version isnt presentVersion s (c .object)
+
+-- 32. "after row 15, when the group's bytes are no such list"
+unfoldable pub row32 : List ℕ → Request → Bool
+row32 group r = isGroupRequest r && not (isGroupList group)
+
+-- 33. "next, when the member is not in it"
+unfoldable pub row33 : List ℕ → Request → Bool
+row33 group r = isGroupRequest r && not (lists group (r .member))
+
+-- 34. "next, when the member does not exist"
+unfoldable pub row34 : Scope Object → Request → Bool
+row34 s r = isGroupRequest r && missing (namedObject s (r .member))
 
 -- operations 1 and 2; 4 and 5
 abbrev pub isTransfer : Request → Bool
@@ -164,9 +203,9 @@ outOfRange first end A B = not (leb first A && leb (A + B) end)
 unfoldable pub row16 : Credential → Request → Bool
 row16 c r = isTransfer r && outOfRange (c .first) (c .end) (r .A) (r .B)
 
--- 17. "Operations 1, 2: A + B is over the size."
+-- 17. "Operations 1, 2: A + B is over the size." Change 6 of document 02: "range, size .. are the member's"
 unfoldable pub row17 : Scope Object → Credential → Request → Bool
-row17 s c r = isTransfer r && r .A + r .B over objectOf s c .size
+row17 s c r = isTransfer r && r .A + r .B over objectOf s (targetOf c r) .size
 
 -- 18. "Create: the number is taken."
 unfoldable pub row18 : Scope Object → Request → Bool
@@ -207,16 +246,19 @@ frameRows f x =
     ∷ line 6 (row6 (x .cred) (x .req))
     ∷ []
 
--- rows 10 to 23, with 31 after 21: the frame's scope, which has the new mark and no outlived entry, the numbers of
--- credential and request, the data, and the reply space's length
-unfoldable pub scopeRows : Scope Object → Credential → Request → List ℕ → ℕ → List Row
-scopeRows s c r payload room =
+-- rows 10 to 23, with 32 to 34 after 15 and 31 after 21: the frame's scope, which has the new mark and no outlived entry, the
+-- numbers of credential and request, the data, the bytes of the credential's object, and the reply space's length
+unfoldable pub scopeRows : Scope Object → Credential → Request → List ℕ → List ℕ → ℕ → List Row
+scopeRows s c r payload group room =
     line 10 (row10 s c)
     ∷ line 11 (row11 s r)
     ∷ line 12 (row12 s c r)
     ∷ line 13 (row13 s c r)
     ∷ line 14 (row14 s c)
     ∷ line 15 (row15 s c r)
+    ∷ line 32 (row32 group r)
+    ∷ line 33 (row33 group r)
+    ∷ line 34 (row34 s r)
     ∷ line 16 (row16 c r)
     ∷ line 17 (row17 s c r)
     ∷ line 18 (row18 s r)
@@ -228,29 +270,35 @@ scopeRows s c r payload room =
     ∷ line 23 (row23 r room)
     ∷ []
 
+-- the bytes of the credential's object on the medium
+abbrev pub groupBytes : Scope Object → Credential → List ℕ → List ℕ
+groupBytes s c m = extentBytes s c (c .object) m
+
 -- and before them row 7, which takes the table, and rows 8 and 9, which take the key
-unfoldable pub driveRows : Scope Object → Fields → List ℕ → List Row
-driveRows s x space =
+unfoldable pub driveRows : Scope Object → List ℕ → Fields → List ℕ → List Row
+driveRows s m x space =
     line 7 (row7 s (x .cred) (x .req))
     ∷ line 8 (row8 s (x .cred))
     ∷ line 9 (row9 s x)
-    ∷ scopeRows s (x .cred) (x .req) (x .payload) (length space)
+    ∷ scopeRows s (x .cred) (x .req) (x .payload) (groupBytes s (x .cred) m) (length space)
 
 -- all, of a frame put to the drive d at a clock reading
 unfoldable pub rows : Drive → List ℕ → List ℕ → ℕ → List ℕ → List Row
 rows d m f clock space =
     line 1 (row1 d m)
-    ∷ (frameRows f (fields f) ++ driveRows (driveScope (refresh clock d) (fields f .cred)) (fields f) space)
+    ∷ (frameRows f (fields f) ++ driveRows (driveScope (refresh clock d) (fields f .cred)) m (fields f) space)
 
 -- their numbers, in this order; a later row of document 02 has a line in the table and a number here
 abbrev pub gateRows : List ℕ
 gateRows =
-    1 ∷ 2 ∷ 3 ∷ 4 ∷ 5 ∷ 6 ∷ 7 ∷ 8 ∷ 9 ∷ 10 ∷ 11 ∷ 12 ∷ 13 ∷ 14 ∷ 15 ∷ 16 ∷ 17 ∷ 18 ∷ 19 ∷ 20 ∷ 21 ∷ 31 ∷ 22 ∷ 23 ∷ []
+    1 ∷ 2 ∷ 3 ∷ 4 ∷ 5 ∷ 6 ∷ 7 ∷ 8 ∷ 9 ∷ 10 ∷ 11 ∷ 12 ∷ 13 ∷ 14 ∷ 15 ∷ 32 ∷ 33 ∷ 34 ∷ 16 ∷ 17 ∷ 18 ∷ 19 ∷ 20 ∷ 21 ∷ 31
+    ∷ 22 ∷ 23 ∷ []
 
 -- the rows that the ledger judges: rights, expiry, range, key and version (8 to 10 and 13 to 17); and row 7,
--- for "a grant keeps to the table that earlier grants loaded", to its levels as to its masks
-unfoldable pub bounds : Scope Object → Fields → List Row
-bounds s x =
+-- for "a grant keeps to the table that earlier grants loaded", to its levels as to its masks; and by change 6 of document 02
+-- "rows 32 to 34 as well", of the ledger's own bytes of the group
+unfoldable pub bounds : Scope Object → List ℕ → Fields → List Row
+bounds s group x =
     line 7 (row7 s (x .cred) (x .req))
     ∷ line 8 (row8 s (x .cred))
     ∷ line 9 (row9 s x)
@@ -258,6 +306,9 @@ bounds s x =
     ∷ line 13 (row13 s (x .cred) (x .req))
     ∷ line 14 (row14 s (x .cred))
     ∷ line 15 (row15 s (x .cred) (x .req))
+    ∷ line 32 (row32 group (x .req))
+    ∷ line 33 (row33 group (x .req))
+    ∷ line 34 (row34 s (x .req))
     ∷ line 16 (row16 (x .cred) (x .req))
     ∷ line 17 (row17 s (x .cred) (x .req))
     ∷ []

@@ -1,7 +1,7 @@
 -- The customer's story, "The shape I read belongs to one log", over the calls that a ledger is fed: frames, clock
 -- readings and rows, nothing else. A consequence of demand 3, proved in proofs/: `versions-once`, `one-log`,
 -- `opens-nothing`.
--- c, d, e: calls. p: a partition. n: an object's number, 0 meaning the partition. v: a version. l: a ledger.
+-- c, d, e: calls. p: a partition. n: an object's number, 0 meaning the partition. k: a log's number. v: a version. l: a ledger.
 use mathlib.Core.Path.{_≡_}
 use mathlib.Core.Logic.{_⊎_}
 use mathlib.Core.Bool.{_&&_, Bool, cond}
@@ -11,13 +11,13 @@ use Prim.Native.Nat.{_+_, _<_, _≤_, ℕ}
 use lib.ListN.{length}
 use Rattle.lemmas.specs.Lists.{find, splice}
 use Rattle.lemmas.specs.Tests.{_is_}
-use Rattle.rules.specs.Demands.{bytesOf, fed}
+use Rattle.rules.specs.Demands.{fed}
 use Rattle.rules.specs.Drive.{format, Partition, partitionAt}
 use Rattle.rules.specs.declared.Operation.{Operation}
 use Rattle.rules.specs.declared.Operation.the-variants.{Create, Delete, Raise}
-use Rattle.rules.specs.Frame.{Fields, fields, operationOf}
+use Rattle.rules.specs.Frame.{Fields, fields, operationOf, targetOf}
 use Rattle.rules.specs.Gate.{Call}
-use Rattle.rules.specs.Ledger.{Fed, LedgerObject, Ledger, ledger, numberOf, ledgerStart}
+use Rattle.rules.specs.Ledger.{bytesOf, Fed, LedgerObject, Ledger, ledger, numberOf, ledgerStart}
 
 -- what a call asks for
 abbrev pub fedFields : Fed → Fields
@@ -89,8 +89,8 @@ pub record VersionsOnce (M : ℕ) (l : Ledger) (calls : List Fed) : Type 0 where
 
 -- ---- "A scanner head sends a frame with a credential and writes a log's shape;
 -- I send a frame with another credential and get the shape back":
--- c is granted and reads, writes or looks at (operations 1 to 3) object n of partition p, with version v in its
--- credential
+-- c is granted and reads, writes or looks (operations 1 to 3) under a credential that names object n of partition p in version v:
+-- a log, or a group of logs
 pub record Uses (p n v : ℕ) (c : Fed) : Type 0 where
   pub granted : c .row ≡ 0
   pub operation : fedFields c .req .operation ≤ 3
@@ -98,24 +98,35 @@ pub record Uses (p n v : ℕ) (c : Fed) : Type 0 where
   pub object : fedFields c .cred .object ≡ n
   pub version : fedFields c .cred .version ≡ v
 
--- c is a granted write to object n of partition p
+-- the log that it reads, writes or looks at: the one that its credential names, or under a group credential the member
+abbrev pub reached : Fed → ℕ
+reached c = targetOf (fedFields c .cred) (fedFields c .req)
+
+-- c is a granted write to log k of partition p, whatever its credential names
 abbrev pub writes : ℕ → ℕ → Fed → Bool
-writes p n c =
+writes p k c =
     c .row is 0
     && fedFields c .req .operation is 2
     && fedFields c .cred .partition is p
-    && fedFields c .cred .object is n
+    && reached c is k
 
--- the bytes b, changed by the granted writes to object n of partition p among these calls, and by nothing else
+-- the file manager's part in a group: among these calls log k is raised, deleted or created only where object n is too. Change 6 of
+-- document 02: "So a credential made for the log before is known by the group's version only, and the file manager raises
+-- that too." Where n is k it holds of any calls
+abbrev pub Together : ℕ → ℕ → ℕ → List Fed → Type 0
+Together p n k calls = (e : Fed) → List·Memᴰ e calls → Renews p k e → (f : Fed) × (List·Memᴰ f calls × Renews p n f)
+
+-- the bytes b, changed by the granted writes to log k of partition p among these calls, and by nothing else
 unfoldable pub rewritten : ℕ → ℕ → List Fed → List ℕ → List ℕ
-rewritten p n [] b = b
-rewritten p n (c ∷ cs) b =
-    rewritten p n cs (cond (writes p n c) (splice b (fedFields c .req .A) (fedFields c .payload)) b)
+rewritten p k [] b = b
+rewritten p k (c ∷ cs) b =
+    rewritten p k cs (cond (writes p k c) (splice b (fedFields c .req .A) (fedFields c .payload)) b)
 
 -- "The shape I read belongs to one log. .. A credential .. that was made for the log before, opens nothing. ..
 -- a version is raised before a log changes hands":
 -- where two granted uses c and d name one object and one version, it was the same log from c to d. So
--- "an expiry, a version change and a late frame between two parts of one read" end in a refusal
+-- "an expiry, a version change and a late frame between two parts of one read" end in a refusal.
+-- Of a log that both reach through a group, this holds where the file manager did its part
 pub record OneLog (M : ℕ) (l : Ledger) (calls : List Fed) : Type 0 where
   -- no grant between them raised, deleted or created that object: one creation of it, in one version
   pub unbroken : (before between later : List Fed) (c d e : Fed) (p n v : ℕ)
@@ -124,7 +135,7 @@ pub record OneLog (M : ℕ) (l : Ledger) (calls : List Fed) : Type 0 where
       → Uses p n v d
       → List·Memᴰ e between
       → Renews p n e → ⊥
-  -- every use of it granted between them, so every write too, was under that same version
+  -- every use granted between them whose credential names it was under that same version
   pub same : (before between later : List Fed) (c d e : Fed) (p n v u : ℕ)
       → calls ≡ before ++ (c ∷ (between ++ (d ∷ later)))
       → Uses p n v c
@@ -132,13 +143,35 @@ pub record OneLog (M : ℕ) (l : Ledger) (calls : List Fed) : Type 0 where
       → List·Memᴰ e between
       → Uses p n u e
       → u ≡ v
-  -- the bytes that d finds are those that c found, changed by these writes only
+  -- where it is the log itself that they reach, the bytes that d finds are those that c found, changed by the granted writes to
+  -- it and by nothing else
   pub bytes : (before between later : List Fed) (c d : Fed) (p n v : ℕ)
       → calls ≡ before ++ (c ∷ (between ++ (d ∷ later)))
       → Uses p n v c
       → Uses p n v d
+      → reached c ≡ n
+      → reached d ≡ n
       → bytesOf (ledger M l (before ++ (c ∷ between))) (fedFields d)
       ≡ rewritten p n (c ∷ between) (bytesOf (ledger M l before) (fedFields c))
+  -- of a member k of the group n: where it was renewed only together with the group, it was not renewed at all
+  pub member : (before between later : List Fed) (c d e : Fed) (p n k v : ℕ)
+      → calls ≡ before ++ (c ∷ (between ++ (d ∷ later)))
+      → Uses p n v c
+      → Uses p n v d
+      → Together p n k between
+      → List·Memᴰ e between
+      → Renews p k e → ⊥
+  -- and the bytes of it that d finds are those that c found, changed by the granted writes to it, through whatever credential, and
+  -- by nothing else
+  pub memberBytes : (before between later : List Fed) (c d : Fed) (p n k v : ℕ)
+      → calls ≡ before ++ (c ∷ (between ++ (d ∷ later)))
+      → Uses p n v c
+      → Uses p n v d
+      → Together p n k between
+      → reached c ≡ k
+      → reached d ≡ k
+      → bytesOf (ledger M l (before ++ (c ∷ between))) (fedFields d)
+      ≡ rewritten p k (c ∷ between) (bytesOf (ledger M l before) (fedFields c))
 
 -- ---- "A credential that has run out, or that was made for the log before, opens nothing."
 -- c's credential is for object n of partition p in version v, and its request is one of operations 1 to 6, granted or not
@@ -163,6 +196,16 @@ pub record OpensNothing (M : ℕ) (l : Ledger) (calls : List Fed) : Type 0 where
       → calls ≡ before ++ (c ∷ (between ++ (d ∷ later)))
       → v ≤ lastOf (ledger M l before) p
       → Renews p n c
+      → Carries p n v d
+      → d .row ≡ 0 → ⊥
+  -- a credential for the group n, "made for the log before" in it: since the group had version v, a grant c raised, deleted or
+  -- created its member k, and the file manager did its part; then no call d that carries the group's version v is granted
+  pub member : (before between later : List Fed) (c d : Fed) (p n k v : ℕ)
+      → calls ≡ before ++ (between ++ (d ∷ later))
+      → versionOf (ledger M l before) p n ≡ some v
+      → Together p n k between
+      → List·Memᴰ c between
+      → Renews p k c
       → Carries p n v d
       → d .row ≡ 0 → ⊥
   -- "that has run out": from a call c on, granted or not, whose clock reading is over the expiry of d's credential, d is

@@ -37,7 +37,7 @@ pub struct Credential {
     pub holder: u32,
 }
 
-// Request, 28 bytes: one number for each field, in its order.
+// Request, 28 bytes, or 32 with a group's member: one number for each field, in its order. `member` is 0 where a request has none.
 pub struct Request {
     pub magic: u16,
     pub operation: u8,
@@ -47,6 +47,14 @@ pub struct Request {
     pub A: u32,
     pub B: u32,
     pub n: u32,
+    pub member: u32,
+}
+
+// Where the parts of a frame start that stand behind its credential: request, data and digest.
+pub struct PartStarts {
+    pub request: usize,
+    pub payload: usize,
+    pub digest: usize,
 }
 
 // An operation with its own arguments (document 01: "A parsed request holds its operation with that operation's own

@@ -1,6 +1,7 @@
 // Frames, built by the client end from the player's numbers.
 ghost use mathlib.Core.Path.{_≡_};
 ghost use lib.ListN.{length};
+use crate::script;
 use crate::words::A;
 use crate::words::B;
 use crate::words::COUNT;
@@ -10,7 +11,10 @@ use crate::words::FIRST;
 use crate::words::HOLDER;
 use crate::words::LEAST;
 use crate::words::LEVEL;
+use crate::words::LINE_NUMBERS;
+use crate::words::LIST;
 use crate::words::LOAD;
+use crate::words::MEMBER;
 use crate::words::NUMBERS;
 use crate::words::OBJECT;
 use crate::words::PARTITION;
@@ -23,9 +27,17 @@ use crate::words::WRITE;
 use rules::Credential;
 
 // A load's data: "two of mask and one of level" for each of seven operations, from the line's numbers.
-const NEEDS_WIDTHS: [usize; 14] = [2, 1, 2, 1, 2, 1, 2, 1, 2, 1, 2, 1, 2, 1];
+const NEEDS_WIDTHS: [usize; LINE_NUMBERS] = [2, 1, 2, 1, 2, 1, 2, 1, 2, 1, 2, 1, 2, 1];
 
-const NEEDS_END: usize = A + 14;
+// A list's data: four bytes for each of the line's numbers.
+const MEMBER_SIZE: usize = 4;
+
+const LIST_WIDTHS: [usize; LINE_NUMBERS] = [MEMBER_SIZE; LINE_NUMBERS];
+
+const LINE_END: usize = A + LINE_NUMBERS;
+
+// What rights bit 7, that of a group credential, counts.
+const GROUP_RIGHT: u16 = 128;
 
 // A number as one byte, two or four: the largest where it is larger.
 pub fn one(x: u64) -> u8 {
@@ -46,7 +58,7 @@ pub fn four(x: u64) -> u32 {
 
 fn credential_of(n: [u64; NUMBERS]) -> Credential {
     Credential {
-        magic: record_rows::CREDENTIAL_MAGIC,
+        magic: fields::CREDENTIAL_MAGIC,
         partition: one(n[PARTITION]),
         slot: one(n[SLOT]),
         object: four(n[OBJECT]),
@@ -61,35 +73,69 @@ fn credential_of(n: [u64; NUMBERS]) -> Credential {
     }
 }
 
-// A is the line's first number; a load's is 0.
+// Whether the credential is a group's, and so the request.
+fn is_group(n: [u64; NUMBERS]) -> bool {
+    two(n[RIGHTS]) / GROUP_RIGHT % 2 == 1
+}
+
+fn magic_of(n: [u64; NUMBERS]) -> u16 {
+    if is_group(n) {
+        fields::GROUP_MAGIC
+    } else {
+        fields::REQUEST_MAGIC
+    }
+}
+
+fn size_of(n: [u64; NUMBERS]) -> usize {
+    if is_group(n) {
+        fields::GROUP_REQUEST_SIZE
+    } else {
+        fields::REQUEST_SIZE
+    }
+}
+
+// The operation is the word's; a list is written.
+fn operation_of(n: [u64; NUMBERS]) -> u64 {
+    if n[WORD] as usize == LIST {
+        WRITE as u64
+    } else {
+        n[WORD]
+    }
+}
+
+// A is the line's first number; a load's and a list's is 0.
 fn a_of(n: [u64; NUMBERS]) -> u64 {
-    if n[WORD] as usize == LOAD { 0 } else { n[A] }
+    match n[WORD] as usize {
+        LOAD | LIST => 0,
+        _ => n[A],
+    }
 }
 
 // B is the line's second number; in a write how many data bytes there are, in a load 0.
 fn b_of(n: [u64; NUMBERS], count: usize) -> u64 {
     match n[WORD] as usize {
-        WRITE => count as u64,
+        WRITE | LIST => count as u64,
         LOAD => 0,
         _ => n[B],
     }
 }
 
-// The 28 bytes of the line's request, with so many data bytes.
-fn request_of(n: [u64; NUMBERS], count: usize) -> [u8; 28]
-    ensures { λ r. ⌜ 28 ≡ length r ⌝ }
+// The bytes of the line's request, with so many data bytes. A group's request has them all, any other but the member's four.
+fn request_of(n: [u64; NUMBERS], count: usize) -> [u8; 32]
+    ensures { λ r. ⌜ 32 ≡ length r ⌝ }
 {
-    let mut bytes = [0u8; 28];
-    let widths = fields::REQUEST_WIDTHS;
-    let v: [u64; fields::REQUEST_FIELDS] = [
-        record_rows::REQUEST_MAGIC as u64,
-        n[WORD],
+    let mut bytes = [0u8; 32];
+    let widths = fields::GROUP_WIDTHS;
+    let v: [u64; fields::GROUP_FIELDS] = [
+        magic_of(n) as u64,
+        operation_of(n),
         n[LEVEL],
         n[TIME],
         n[COUNT],
         a_of(n),
         b_of(n, count),
         count as u64,
+        n[MEMBER],
     ];
     octets::layout::write(&mut bytes, 0, &widths, &v);
     bytes
@@ -99,7 +145,15 @@ fn request_of(n: [u64; NUMBERS], count: usize) -> [u8; 28]
 fn needs_of(n: [u64; NUMBERS]) -> [u8; 21] {
     let mut bytes = [0u8; 21];
     let widths = NEEDS_WIDTHS;
-    octets::layout::write(&mut bytes, 0, &widths, &n[A..NEEDS_END]);
+    octets::layout::write(&mut bytes, 0, &widths, &n[A..LINE_END]);
+    bytes
+}
+
+// The data bytes of a list, and zeros for the numbers that the line lacks.
+fn list_of(n: [u64; NUMBERS]) -> [u8; 56] {
+    let mut bytes = [0u8; 56];
+    let widths = LIST_WIDTHS;
+    octets::layout::write(&mut bytes, 0, &widths, &n[A..LINE_END]);
     bytes
 }
 
@@ -109,16 +163,23 @@ fn build_with(n: [u64; NUMBERS], key: [u8; 32], payload: &[u8], space: &mut [u8]
     let mut credential = [0u8; 36];
     let issued = client::issue(credential_of(n), &key, &mut credential);
     let secret = issued.key;
-    let request = request_of(n, payload.len());
-    let built = client::build(&credential, &request, payload, &secret, space);
+    let bytes = request_of(n, payload.len());
+    let request = script::part(&bytes, 0, size_of(n));
+    let built = client::build(&credential, request, payload, &secret, space);
     built.length
 }
 
-// Writes the frame of a line; its data is the line's text, or a load's table.
-pub fn build(n: [u64; NUMBERS], key: [u8; 32], text: &[u8], space: &mut [u8]) -> usize {
-    if n[WORD] as usize == LOAD {
+// Writes the frame of a line; its data is the line's text, a load's table, or a list.
+pub fn build(n: [u64; NUMBERS], key: [u8; 32], line: &[u8], space: &mut [u8]) -> usize {
+    let word = n[WORD] as usize;
+    if word == LOAD {
         let needs = needs_of(n);
         return build_with(n, key, &needs, space);
     }
-    build_with(n, key, text, space)
+    if word == LIST {
+        let list = list_of(n);
+        let end = MEMBER_SIZE * script::number_count(line);
+        return build_with(n, key, script::part(&list, 0, end), space);
+    }
+    build_with(n, key, script::text(line), space)
 }

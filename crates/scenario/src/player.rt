@@ -42,9 +42,6 @@ pub const LEASTS_FROM: usize = state::LEASTS;
 
 pub const OPERATIONS: usize = LEASTS_FROM - MASKS_FROM;
 
-// How many numbers a line has at most.
-const LINE_NUMBERS: usize = 14;
-
 // The player's state between two lines: its numbers; the key in the slot that the line names; the key that is kept.
 pub struct Player {
     pub numbers: [u64; NUMBERS],
@@ -102,7 +99,7 @@ fn parsed(old: [u64; NUMBERS], line: &[u8], base: usize) -> [u64; NUMBERS] {
         return n;
     }
     let mut i: usize = 0;
-    while i < LINE_NUMBERS {
+    while i < words::LINE_NUMBERS {
         let x = absent(n[base + i], base);
         n[base + i] = script::number_or(line, i + 1, x);
         i += 1;
@@ -277,7 +274,7 @@ fn framed(
     frame: &mut [u8],
 ) -> [u64; NUMBERS] {
     let mut n = old;
-    n[words::LENGTH] = frames::build(n, key, script::text(line), frame) as u64;
+    n[words::LENGTH] = frames::build(n, key, line, frame) as u64;
     n[words::COUNT] = std::num::wrapping_add_u64(n[words::COUNT], 1);
     n[words::TIME] = std::num::wrapping_add_u64(n[words::TIME], n[words::PACE]);
     n

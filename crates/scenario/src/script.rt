@@ -2,6 +2,7 @@
 // and behind a colon the label that is printed.
 ghost use Prim.Native.Nat.{_≤_, _<_};
 ghost use lib.ListN.{length};
+use crate::words::LINE_NUMBERS;
 
 // The bytes from place `from` up to `to`; none where they are not all there.
 pub fn part<'a>(s: &'a [u8], from: usize, to: usize) -> &'a [u8] {
@@ -129,6 +130,21 @@ pub fn number_or(line: &[u8], k: usize, absent: u64) -> u64 {
         return number_at(line, at);
     }
     absent
+}
+
+// How many numbers a line has.
+pub fn number_count(line: &[u8]) -> usize
+    ensures { λ r. ⌜ r ≤ 14 ⌝ }
+{
+    let s = head(line);
+    let mut k: usize = 0;
+    while k < LINE_NUMBERS {
+        if word_start(s, 0, k + 1) >= s.len() {
+            return k;
+        }
+        k += 1;
+    }
+    k
 }
 
 // Whether a line opens the part that another line names.

@@ -4,128 +4,136 @@ ghost use Prim.Native.Nat.{_<_};
 use crate::script;
 
 // How many numbers the player has, and one more than the number of the last word.
-pub const NUMBERS: usize = 105;
+pub const NUMBERS: usize = 107;
 
-const WORD_COUNT: usize = 49;
+const WORD_COUNT: usize = 51;
 
 pub const WRITE: usize = 2;
 
 pub const LOAD: usize = 8;
 
-pub const AGAIN: usize = 9;
+// A write of a group's list.
+pub const LIST: usize = 9;
 
-pub const FORMAT: usize = 10;
+pub const AGAIN: usize = 10;
 
-pub const DAMAGE: usize = 11;
+pub const FORMAT: usize = 11;
 
-pub const NEED: usize = 12;
+pub const DAMAGE: usize = 12;
 
-pub const BYTE: usize = 13;
+pub const NEED: usize = 13;
 
-pub const DO: usize = 14;
+pub const BYTE: usize = 14;
 
-pub const DONE: usize = 15;
+pub const DO: usize = 15;
 
-pub const STOP: usize = 16;
+pub const DONE: usize = 16;
 
-pub const TITLE: usize = 17;
+pub const STOP: usize = 17;
 
-pub const COMMENT: usize = 18;
+pub const TITLE: usize = 18;
 
-pub const KEEP: usize = 19;
+pub const COMMENT: usize = 19;
 
-pub const MARK: usize = 20;
+pub const KEEP: usize = 20;
 
-pub const HELD: usize = 21;
+pub const MARK: usize = 21;
 
-pub const OBJECTS: usize = 22;
+pub const HELD: usize = 22;
 
-pub const RECORD: usize = 23;
+pub const OBJECTS: usize = 23;
 
-pub const START: usize = 24;
+pub const RECORD: usize = 24;
 
-pub const KEY: usize = 25;
+pub const START: usize = 25;
 
-pub const SIZE: usize = 26;
+pub const KEY: usize = 26;
 
-pub const TABLE: usize = 27;
+pub const SIZE: usize = 27;
+
+pub const TABLE: usize = 28;
 
 // The words from here on set numbers.
-pub const PARTITION: usize = 28;
+pub const PARTITION: usize = 29;
 
-pub const SLOT: usize = 29;
+pub const SLOT: usize = 30;
 
-pub const OBJECT: usize = 30;
+pub const OBJECT: usize = 31;
 
-pub const VERSION: usize = 31;
+pub const VERSION: usize = 32;
 
-pub const HOLDER: usize = 32;
+pub const HOLDER: usize = 33;
 
-pub const RIGHTS: usize = 33;
+pub const RIGHTS: usize = 34;
 
-pub const LEAST: usize = 34;
+pub const LEAST: usize = 35;
 
-pub const FIRST: usize = 35;
+pub const FIRST: usize = 36;
 
-pub const END: usize = 36;
+pub const END: usize = 37;
 
-pub const EXPIRY: usize = 37;
+pub const EXPIRY: usize = 38;
 
-pub const LEVEL: usize = 38;
+pub const LEVEL: usize = 39;
 
-pub const TIME: usize = 39;
+pub const TIME: usize = 40;
 
-pub const COUNT: usize = 40;
+pub const COUNT: usize = 41;
 
-pub const PACE: usize = 41;
+pub const PACE: usize = 42;
 
-pub const CLOCK: usize = 42;
+pub const CLOCK: usize = 43;
 
-pub const SPACE: usize = 43;
+pub const SPACE: usize = 44;
 
-pub const MEDIUM: usize = 44;
+pub const MEDIUM: usize = 45;
 
-pub const SIGN: usize = 45;
+pub const SIGN: usize = 46;
 
-pub const QUIET: usize = 46;
+pub const QUIET: usize = 47;
 
-pub const REPEAT: usize = 47;
+pub const REPEAT: usize = 48;
 
 // How many bytes of the last frame are put.
-pub const LENGTH: usize = 48;
+pub const LENGTH: usize = 49;
+
+// The member that a group's request names.
+pub const MEMBER: usize = 50;
 
 // The line: its word, where it starts and ends, where the next one starts, where to go on behind a part.
-pub const WORD: usize = 62;
+pub const WORD: usize = 64;
 
-pub const FROM: usize = 63;
+pub const FROM: usize = 65;
 
-pub const TO: usize = 64;
+pub const TO: usize = 66;
 
-pub const NEXT: usize = 65;
+pub const NEXT: usize = 67;
 
-pub const BACK: usize = 66;
+pub const BACK: usize = 68;
 
-// The line's numbers, fourteen of them.
-pub const A: usize = 67;
+// The line's numbers, and how many of them there are.
+pub const LINE_NUMBERS: usize = 14;
 
-pub const B: usize = 68;
+pub const A: usize = 69;
 
-pub const C: usize = 69;
+pub const B: usize = 70;
+
+pub const C: usize = 71;
 
 // M, mark; of partition 0 how many objects, the second one's four numbers, how many entries: what `record` prints. Then the
 // last version given, and where the object that the line names starts.
-pub const DRIVE: usize = 81;
+pub const DRIVE: usize = 83;
 
-pub const LAST: usize = 89;
+pub const LAST: usize = 91;
 
-pub const PLACE: usize = 90;
+pub const PLACE: usize = 92;
 
 // A mask and a least level for each of operations 1 to 7: what `table` prints.
-pub const NEEDS: usize = 91;
+pub const NEEDS: usize = 93;
 
 // The place of a word in a table of words, 0 where it has none.
 fn place_in(table: &[u8], word: &[u8]) -> usize
-    ensures { λ r. ⌜ r < 49 ⌝ }
+    ensures { λ r. ⌜ r < 51 ⌝ }
 {
     let mut k: usize = 1;
     while k < WORD_COUNT {
@@ -143,10 +151,10 @@ pub fn word_number(word: &[u8]) -> usize {
         return COMMENT;
     }
     place_in(
-        b"? read write look raise create delete setkey load again format damage need byte do done stop # ; \
+        b"? read write look raise create delete setkey load list again format damage need byte do done stop # ; \
         keep mark held objects record start key M table \
         credential slot object version holder rights least first end expiry level time count \
-        pace clock space medium sign quiet repeat length",
+        pace clock space medium sign quiet repeat length member",
         word,
     )
 }
@@ -158,7 +166,7 @@ pub fn base_of(word: usize) -> usize {
 
 // Where the number is that a word prints.
 pub fn shown_place(word: usize) -> usize
-    ensures { λ r. ⌜ r < 105 ⌝ }
+    ensures { λ r. ⌜ r < 107 ⌝ }
 {
     match word {
         MARK => DRIVE + 1,
@@ -174,7 +182,7 @@ pub fn sends(word: usize) -> bool {
 
 // Whether a word builds the frame that it puts.
 pub fn builds(word: usize) -> bool {
-    (word >= 1) & (word <= LOAD)
+    (word >= 1) & (word <= LIST)
 }
 
 // Whether a word has an answer, which is printed.

@@ -25,13 +25,13 @@ use Rattle.rules.specs.Frame.{Fields, digestSize}
 use Rattle.rules.specs.Scope.{Scope}
 use Rattle.rules.specs.Operations.{credentialKey, headSize, head, headed, sealed, reply, replyCovered, perform}
 use Rattle.effect.specs.declared.GrantContext.{GrantContext}
-use Rattle.effect.specs.Performed.{ContextFits, BytesFit}
+use Rattle.effect.specs.Performed.{ContextFits, BytesFit, reachedBy}
 use Rattle.result.specs.Result.{resultPut}
 use Rattle.result.specs.Performed.{result-is}
 use Rattle.sealed_reply.specs.Reply.{sealPut, resultReply, replyPut}
 
 module _ (o : Operation) (s : Scope Object) (x : Fields) (m : List ℕ) (k : GrantContext)
-    (w : ContextFits o s (x .cred) k) (fit : BytesFit o s x m) (n : ℕ) (n-is : n ≡ length (perform o s x m .result)) (space : List ℕ)
+    (w : ContextFits o s (x .cred) (reachedBy x) k) (fit : BytesFit o s x m) (n : ℕ) (n-is : n ≡ length (perform o s x m .result)) (space : List ℕ)
     (room : headSize + n + cond (x .req .level is 2) digestSize 0 ≤ length space)
     (h : Mac) (e : Keyed h (credentialKey (s .keys) x) (x .credential ++ x .request)) where
   abbrev result : List ℕ

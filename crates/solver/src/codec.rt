@@ -1,8 +1,8 @@
 // The records of a frame and the results that are numbers, encoded and decoded for C. include/sievelast_records.h declares
 // the calls; what they do is the crate `records`'.
 ghost use mathlib.Core.Path.{_≡_};
-ghost use Rattle.rules.specs.Frame.{credentialSize, requestSize};
-ghost use Rattle.records.specs.Coding.{encodeRow, credentialEncoded, requestEncoded, credentialDecoded, requestDecoded, lookDecoded, versionDecoded};
+ghost use Rattle.rules.specs.Frame.{credentialSize, groupRequestSize, requestSize};
+ghost use Rattle.records.specs.Coding.{encodeRow, credentialEncoded, requestEncoded, groupRequestEncoded, credentialDecoded, requestDecoded, groupRequestDecoded, lookDecoded, versionDecoded};
 
 // Writes a credential's 36 bytes at the start of `space`.
 #[no_mangle]
@@ -34,6 +34,26 @@ pub extern "C" fn sievelast_request_decode(bytes: &[u8]) -> records::RequestDeco
     ensures { λ r. ⌜ r ≡ requestDecoded (now (bytes .entry)) ⌝ }
 {
     records::decode_request(bytes)
+}
+
+// Writes the 32 bytes of a group's request at the start of `space`.
+#[no_mangle]
+pub extern "C" fn sievelast_group_request_encode(
+    r: records::RequestFields,
+    member: u32,
+    space: &mut [u8],
+) -> u64
+    ensures { λ row. ⌜ (row ≡ encodeRow groupRequestSize (now (space .entry))) × (now (space .exit) ≡ groupRequestEncoded (now (space .entry)) r member) ⌝ }
+{
+    records::encode_group_request(r, member, space)
+}
+
+// The fields and the member of the 32 bytes of a group's request.
+#[no_mangle]
+pub extern "C" fn sievelast_group_request_decode(bytes: &[u8]) -> records::GroupRequestDecoded
+    ensures { λ r. ⌜ r ≡ groupRequestDecoded (now (bytes .entry)) ⌝ }
+{
+    records::decode_group_request(bytes)
 }
 
 // Size and version, of a look's result.

@@ -1,20 +1,34 @@
 -- Laws of the parse's answer. For a caller: what each arm of
 -- `let Parsed::Fields(c, request) = parse(f) else ..` knows.
 use mathlib.Core.Path.{_≡_, refl, sym, _∙_}
-use mathlib.Core.Bool.{Bool, true, false, _||_, cond, true≢false}
+use mathlib.Core.Logic.{_⊎_, inl, inr}
+use mathlib.Core.Bool.{Bool, true, false, not, _||_, cond, true≢false}
 use mathlib.Core.List.{List}
 use Prim.Native.Nat.{ℕ, _≤_, _<_}
 use lib.ListN.{length}
 use borrow.Author.Tests.{ltb-false, eqb-true, eqb-false, lt-ltb, le-ltb, not-false}
-use Rattle.lemmas.specs.Tests.{_is_, _isnt_, and-rest-false, or-l, or-r, none-of}
+use Rattle.lemmas.specs.Tests.{_is_, _isnt_, and-rest-false, or-cases, or-l, or-r, none-of}
 use Rattle.lemmas.specs.Lists.{every}
 use Rattle.lemmas.specs.RowTable.{firstRow, applies, none-applies}
 use Rattle.rules.specs.declared.Credential.{Credential}
 use Rattle.rules.specs.declared.Request.{Request}
-use Rattle.rules.specs.Frame.{credentialMagic, requestMagic, requestStart, credentialAt, requestAt, fields}
-use Rattle.rules.specs.Rows.{leastFrame, row6, outsideCredential, requestFaults, outsideRequest, misfits, frameRows}
-use Rattle.record_rows.specs.Refusals.{recordRows, recordRow}
+use Rattle.rules.specs.declared.PartStarts.{PartStarts}
+use Rattle.rules.specs.Frame.{
+  credentialAt,
+  credentialMagic,
+  fields,
+  frameLength,
+  frameRequest,
+  groupMagic,
+  isGroupRequest,
+  partStarts,
+  requestMagic,
+  requestStart,
+}
+use Rattle.rules.specs.Rows.{leastFrame, row6, outsideCredential, requestFaults, outsideRequest, misfits, frameRows, wrongData}
+use Rattle.record_rows.specs.Refusals.{otherLength, recordRow, recordRows}
 use Rattle.rules.specs.declared.Operation.{Operation}
+use Rattle.wire.specs.declared.Reach.{Reach}
 use Rattle.wire.specs.declared.ParsedRequest.{ParsedRequest}
 use Rattle.wire.specs.declared.Parsed.{Parsed}
 use Rattle.wire.specs.declared.Parsed.the-variants.{Fields, Refused}
@@ -22,6 +36,8 @@ use Rattle.wire.specs.Parse.{
   operationNumber,
   firstNumber,
   secondNumber,
+  reachMagic,
+  reachMember,
   numbersOf,
   refusedBy,
   fieldsOf,
@@ -32,21 +48,24 @@ use Rattle.wire.specs.Parse.{
   frameAnswer,
   recordsAnswer,
   ArgumentsKept,
+  Formed,
+  MemberKept,
 }
 
 -- ---- for a caller
 -- fields: no row from 2 to 6 applies, and they are the frame's
 pub answered-fields : (f : List ℕ) (c : Credential) (request : ParsedRequest)
     → answerOf (Fields c request) ≡ frameAnswer f
-    → (frameRow f ≡ 0) × (c ≡ fields f .cred) × (numbersOf request ≡ fields f .req)
+    → (frameRow f ≡ 0) × (c ≡ fields f .cred) × (numbersOf request ≡ fields f .req) × (request .starts ≡ partStarts f)
 unfolding frameAnswer answerBy
 answered-fields f c request e = go (frameRow f is 0) refl e
   where
     go : (b : Bool) → (frameRow f is 0) ≡ b
-        → fieldsOf c (numbersOf request) ≡ cond b (fieldsOf (fields f .cred) (fields f .req)) (refusedBy (frameRow f))
-        → (frameRow f ≡ 0) × (c ≡ fields f .cred) × (numbersOf request ≡ fields f .req)
-    go true z e = (eqb-true (frameRow f) 0 z, cc, cc)
-    go false z e = (cc, cc, cc)
+        → fieldsOf c (numbersOf request) (request .starts)
+        ≡ cond b (fieldsOf (fields f .cred) (fields f .req) (partStarts f)) (refusedBy (frameRow f))
+        → (frameRow f ≡ 0) × (c ≡ fields f .cred) × (numbersOf request ≡ fields f .req) × (request .starts ≡ partStarts f)
+    go true z e = (eqb-true (frameRow f) 0 z, cc, cc, cc)
+    go false z e = (cc, cc, cc, cc)
 
 -- a row: it is the frame's, and not 0
 pub answered-refused : (f : List ℕ) (row : ℕ) → answerOf (Refused row) ≡ frameAnswer f
@@ -55,7 +74,7 @@ unfolding frameAnswer answerBy
 answered-refused f row e = go (frameRow f is 0) refl e
   where
     go : (b : Bool) → (frameRow f is 0) ≡ b
-        → refusedBy row ≡ cond b (fieldsOf (fields f .cred) (fields f .req)) (refusedBy (frameRow f))
+        → refusedBy row ≡ cond b (fieldsOf (fields f .cred) (fields f .req) (partStarts f)) (refusedBy (frameRow f))
         → (row ≡ frameRow f) × (row ≡ 0 → ⊥)
     go true z e = (cc, λ h. let no : true ≡ false = cc in absurd (true≢false no))
     go false z e = let r : row ≡ frameRow f = cc in (r, λ h. eqb-false (frameRow f) 0 z (sym r ∙ h))
@@ -71,7 +90,7 @@ unfolding frameAnswer frameRow frameRows firstRow answerBy
 answered-short f h = rw (lt-ltb (length f) leastFrame h)
 
 pub answered-long : (f : List ℕ) → leastFrame ≤ length f
-    → frameAnswer f ≡ recordsAnswer (credentialAt f 0) (requestAt f requestStart) (length f)
+    → frameAnswer f ≡ recordsAnswer (credentialAt f 0) (frameRequest f) (requestStart f) (length f)
 unfolding frameAnswer recordsAnswer frameRow recordRow frameRows firstRow fields
 answered-long f h = rw (le-ltb (length f) leastFrame h)
 
@@ -82,18 +101,32 @@ both-zero a b e = (
 )
 
 -- no row from 3 to 6 applies
-module _ (c : Credential) (r : Request) (len : ℕ) (clear : recordRow c r len ≡ 0) where
+module _ (c : Credential) (r : Request) (at len : ℕ) (clear : recordRow c r at len ≡ 0) where
   -- the test numbered k fails
-  fails : (k : ℕ) → applies k (recordRows c r len) ≡ false
+  fails : (k : ℕ) → applies k (recordRows c r at len) ≡ false
   unfolding every recordRow
-  fails k = none-applies (recordRows c r len) refl clear k
+  fails k = none-applies (recordRows c r at len) refl clear k
 
-  marked : r .magic ≡ requestMagic
+  -- mark and member are kept in what the request reaches
+  pub member-kept : Formed r → MemberKept (r .magic) (r .member)
   unfolding applies
-  marked =
-      eqb-true (r .magic) requestMagic
-      (not-false (r .magic is requestMagic)
-      (or-r (c .magic isnt credentialMagic) (r .magic isnt requestMagic) (fails 3)))
+  member-kept formed = go (or-cases (r .magic is requestMagic) (isGroupRequest r)
+      (not-false (r .magic is requestMagic || isGroupRequest r)
+      (or-r (c .magic isnt credentialMagic) (not (r .magic is requestMagic || isGroupRequest r)) (fails 3))))
+    where
+      plain : r .magic ≡ requestMagic → isGroupRequest r ≡ false
+      plain e = rw e refl
+
+      go : ((r .magic is requestMagic) ≡ true) ⊎ (isGroupRequest r ≡ true) → MemberKept (r .magic) (r .member)
+      go (inl e) = let k : r .magic ≡ requestMagic = eqb-true (r .magic) requestMagic e in inr (k, formed (plain k))
+      go (inr e) = inl (eqb-true (r .magic) groupMagic e)
+
+  -- the frame is as long as its parts together
+  pub length-kept : len ≡ frameLength at r
+  unfolding applies
+  length-kept =
+      eqb-true len (frameLength at r)
+      (not-false (len is frameLength at r) (or-r (wrongData r) (otherLength r at len) (fails 5)))
 
   within : outsideRequest r ≡ false
   unfolding applies
@@ -140,11 +173,20 @@ module _ (c : Credential) (r : Request) (len : ℕ) (clear : recordRow c r len �
   }
 
   -- and neither does the parsed request
-  pub numbers-kept : (o : Operation) → operationNumber o ≡ r .operation → firstNumber o ≡ r .A → secondNumber o ≡ r .B
-      → numbersOf (record { operation = o; level = r .level; time = r .time; count = r .count; n = r .n }) ≡ r
+  pub numbers-kept : (o : Operation) (x : Reach) (starts : PartStarts) → operationNumber o ≡ r .operation
+      → firstNumber o ≡ r .A → secondNumber o ≡ r .B → reachMagic x ≡ r .magic → reachMember x ≡ r .member
+      → numbersOf (record {
+        operation = o;
+        reach = x;
+        level = r .level;
+        time = r .time;
+        count = r .count;
+        n = r .n;
+        starts = starts;
+      }) ≡ r
   unfolding numbersOf
-  numbers-kept o e a b = λ i. record {
-    magic = sym marked i;
+  numbers-kept o x starts e a b m k = λ i. record {
+    magic = m i;
     operation = e i;
     level = r .level;
     time = r .time;
@@ -152,4 +194,5 @@ module _ (c : Credential) (r : Request) (len : ℕ) (clear : recordRow c r len �
     A = a i;
     B = b i;
     n = r .n;
+    member = k i;
   }

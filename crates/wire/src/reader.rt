@@ -3,7 +3,7 @@
 ghost use mathlib.Core.Path.{_≡_};
 ghost use Prim.Native.Nat.{_+_, _≤_, _<_, _^_};
 ghost use lib.ListN.{length};
-ghost use Rattle.rules.specs.Frame.{credentialSize, requestSize, requestStart, credentialAt, requestAt};
+ghost use Rattle.rules.specs.Frame.{credentialSize, groupRequestSize, credentialAt, requestAt, requestStart, frameRequest};
 ghost use Rattle.rules.specs.Rows.{leastFrame};
 ghost use Rattle.wire.specs.Parse.{answerOf, recordsAnswer};
 use crate::Parsed;
@@ -41,8 +41,8 @@ pub fn credential<'a>(r: Reader<'a>) -> rules::Credential
 
 // The request at the reader's position, behind the credential c: the fields of both, or a row.
 pub fn request<'a>(r: Reader<'a>, c: rules::Credential) -> Parsed
-    requires { ⌜ r .at + requestSize ≤ length (now (r .src)) ⌝ }
-    ensures { λ p. ⌜ answerOf p ≡ recordsAnswer c (requestAt (now (r .entry .src)) (r .entry .at)) (length (now (r .entry .src))) ⌝ }
+    requires { ⌜ r .at + groupRequestSize ≤ length (now (r .src)) ⌝ }
+    ensures { λ p. ⌜ answerOf p ≡ recordsAnswer c (requestAt (now (r .entry .src)) (r .entry .at)) (r .entry .at) (length (now (r .entry .src))) ⌝ }
 {
     outcome::request_at(r.src, r.at, c)
 }
@@ -50,10 +50,10 @@ pub fn request<'a>(r: Reader<'a>, c: rules::Credential) -> Parsed
 // From a frame to its fields: its parameter is a plain slice, so whoever calls it needs no walk by hand.
 pub fn walk(frame: &[u8]) -> Parsed
     requires { ⌜ leastFrame ≤ length (now frame) ⌝ }
-    ensures { λ p. ⌜ answerOf p ≡ recordsAnswer (credentialAt (now (frame .entry)) 0) (requestAt (now (frame .entry)) requestStart) (length (now (frame .entry))) ⌝ }
+    ensures { λ p. ⌜ answerOf p ≡ recordsAnswer (credentialAt (now (frame .entry)) 0) (frameRequest (now (frame .entry))) (requestStart (now (frame .entry))) (length (now (frame .entry))) ⌝ }
 {
     let r = new(frame);
     let c = credential(r);
-    let q = skip(r, fields::REQUEST_START);
+    let q = skip(r, fields::credential_length(c));
     request(q, c)
 }

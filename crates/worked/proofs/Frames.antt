@@ -40,6 +40,7 @@ ask operation level count A B n = record {
   A = A;
   B = B;
   n = n;
+  member = 0;
 }
 
 -- ---- the keys: the drive's partition key and working key 0 of partition 0, as operation 7 makes them

@@ -1,5 +1,5 @@
 -- A frame that carries its right digest passes row 9, whatever HMAC gives: so the checker can compute a list of calls
--- without computing HMAC. Used by Worked.antt, Heads.antt, Areas.antt and Tables.antt.
+-- without computing HMAC. Used by Worked.antt, Heads.antt, Areas.antt, Tables.antt and Groups.antt.
 use mathlib.Core.Path.{_∙_, _≡_, ap, refl, sym}
 use mathlib.Core.Bool.{Bool, cond, false, not, true, true≢false}
 use mathlib.Core.List.{[], _++_, _∷_, List, map}
@@ -24,12 +24,28 @@ use Rattle.rules.specs.Demands.{after, answer, State, step}
 use Rattle.rules.specs.Drive.{Drive, format, formatRows, refresh, sameEntry, sound, soundObject, soundPartition}
 use Rattle.rules.specs.declared.Operation.{Operation}
 use Rattle.rules.specs.declared.Operation.the-variants.{Create, Delete, LoadTable, Look, Raise, Read, SetKey, Write}
-use Rattle.rules.specs.Frame.{covered, credentialAt, credentialBytes, entry, Fields, fields, memoryIndex, operation, operationOf, requestAt, requestBytes}
+use Rattle.rules.specs.Frame.{
+  covered,
+  credentialAt,
+  credentialBytes,
+  credentialLength,
+  entry,
+  Fields,
+  fields,
+  memoryIndex,
+  operation,
+  operationOf,
+  requestAt,
+  requestBytes,
+  requestLength,
+  targetOf,
+}
 use Rattle.rules.specs.Scope.{Scope, driveScope}
 use Rattle.rules.specs.Gate.{Answer, Call, gate, granted, afterRefusal, refused, wholeAnswer}
-use Rattle.rules.specs.Operations.{created, credentialKey, deleted, digestOf, extentStart, head, headed, keyIn, keyPut, keySet, namedObject, newKey, objectOf, placement, presentVersion, perform, raised, remember, reply, replyLength, sealed, signing, placementStart}
+use Rattle.rules.specs.Operations.{created, credentialKey, deleted, digestOf, extentBytes, extentStart, head, headed, keyIn, keyPut, keySet, namedObject, newKey, objectOf, placement, presentVersion, perform, raised, remember, reply, replyLength, sealed, signing, placementStart}
+use Rattle.rules.specs.Group.{isGroupList, lists, membersIn, rising}
 use Rattle.rules.specs.Needs.{defaultNeeds, goodNeeds, needsAt, needUnder}
-use Rattle.rules.specs.Rows.{driveRows, frameRows, needOf, row1, row10, row11, row12, row13, row14, row15, row16, row17, row18, row19, row20, row21, row22, row31, row7, row8, row9, rows, scopeRows}
+use Rattle.rules.specs.Rows.{driveRows, frameRows, needOf, row1, row10, row11, row12, row13, row14, row15, row16, row17, row18, row19, row20, row21, row22, row31, row32, row33, row34, row7, row8, row9, rows, scopeRows}
 
 -- ---- the n bytes of a list, one by one: so that its length is seen without its being opened
 unfoldable pub spread : ℕ → List ℕ → List ℕ
@@ -277,11 +293,11 @@ keys-with b d m c h = go (row is 0) (row is 1)
 -- ---- all that the gate computes with, HMAC apart: `unfolding opened` opens it
 unfoldable pub opened : ℕ
 unfolding part splice same every some? pairs keep update find change missing firstRow numberAt digit bigEndian readAll
-    encode credentialAt credentialBytes requestAt requestBytes fields covered operation entry memoryIndex soundObject
+    encode credentialAt credentialBytes credentialLength requestAt requestBytes requestLength targetOf fields covered operation entry memoryIndex soundObject
     soundPartition sound sameEntry refresh formatRows format spot free next gaps better bestOf bestFit keyIn signing
-    credentialKey digestOf namedObject objectOf presentVersion extentStart placement placementStart head headed sealed
+    credentialKey digestOf namedObject objectOf presentVersion extentStart extentBytes placement placementStart head headed sealed
     reply replyLength raised created deleted newKey keyPut keySet perform remember defaultNeeds needUnder needsAt
-    goodNeeds needOf row1 row7 row8 row9 row10 row11 row12 row13 row14 row15 row16 row17 row18 row19 row20 row21 row31
-    row22 frameRows driveRows scopeRows rows granted gate answer step spread rightDigest frame wrong forged gateWith
+    goodNeeds membersIn rising isGroupList lists needOf row1 row7 row8 row9 row10 row11 row12 row13 row14 row15 row16 row17 row18 row19 row20 row21 row31
+    row32 row33 row34 row22 frameRows driveRows scopeRows rows granted gate answer step spread rightDigest frame wrong forged gateWith
     callOf answerWith Known9 AllKnown9 saidWith run times Digest Digests
 opened = 0

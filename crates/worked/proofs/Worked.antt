@@ -160,7 +160,7 @@ looks k = fill 4 3 (100 + k) 0 0
 
 -- a look at time T and a clock reading
 looksAt : ℕ → Request
-looksAt T = record { magic = requestMagic; operation = 3; level = 0; time = T; count = 99; A = 0; B = 0; n = 0 }
+looksAt T = record { magic = requestMagic; operation = 3; level = 0; time = T; count = 99; A = 0; B = 0; n = 0; member = 0 }
 
 lookAt : ℕ → ℕ → TestCall
 lookAt T clock = signed workingKey (by 0 0 1 4 0 0 0) (looksAt T) [] clock 64

@@ -1,6 +1,7 @@
 //! "Digests are SHA-256 (FIPS 180-4) and HMAC (RFC 2104)."
 
-pub type Digest = [u8; 32];
+pub const DIGEST_BYTES: usize = 32;
+pub type Digest = [u8; DIGEST_BYTES];
 
 /// "Key and message each have at most 16,777,216 bytes."
 pub const LONGEST: usize = 16_777_216;

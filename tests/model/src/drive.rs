@@ -24,7 +24,7 @@ pub struct Object {
 }
 
 /// "A grant enters (slot, holder, T, count)." Change 2: "Each memory entry, and so row 12's nonce, has the credential's object
-/// too."
+/// too." Change 6: "The nonce's object is the group", which is the credential's.
 #[derive(Clone, Debug, PartialEq, Eq)]
 pub struct Nonce {
     pub slot: u8,
@@ -86,6 +86,12 @@ impl Drive {
     /// Where byte `at` of a partition's area stands in the medium: "partition p spans p × q up to (p + 1) × q".
     pub fn place(&self, partition: usize, at: u32) -> usize {
         partition * self.quarter() as usize + at as usize
+    }
+
+    /// The bytes of an object of a partition: its area of the medium.
+    pub fn bytes<'a>(&self, medium: &'a [u8], partition: usize, object: &Object) -> &'a [u8] {
+        let from = self.place(partition, object.start);
+        &medium[from..from + object.size as usize]
     }
 
     /// The key in a slot, if it was ever set.

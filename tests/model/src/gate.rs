@@ -1,7 +1,9 @@
-//! The gate: rows 1 to 23 and 31, the eight operations, the reply.
+//! The gate: rows 1 to 23 and 31 to 34, the eight operations, the reply.
 
-use crate::digest::hmac;
+use crate::digest::{hmac, Digest};
 use crate::drive::*;
+use crate::frame::Frame;
+use crate::group::{is_list, lists};
 use crate::records::*;
 use crate::table::{good_data, Table};
 
@@ -27,29 +29,22 @@ pub fn gate_with_rows(
     drive.pass_time(clock);
     // "The lowest row that applies is returned, with length 0. Everything lent is untouched; of the drive only mark and
     // outlived entries change."
-    let rows = rows_that_apply(drive, frame, space.len());
+    // "2. The frame is under 96 bytes."
+    let Some(frame) = Frame::read(frame) else {
+        return (vec![2], 0);
+    };
+    let rows = rows_that_apply(drive, medium, &frame, space.len());
     if !rows.is_empty() {
         return (rows, 0);
     }
-    let reply = grant(drive, medium, frame);
+    let reply = grant(drive, medium, &frame);
     space[..reply.len()].copy_from_slice(&reply); // "In any space written, later bytes keep their values."
     (rows, reply.len())
 }
 
-/// Rows 2 to 23 and 31 that apply, in their order. The drive's mark and memories are already those of this call.
-fn rows_that_apply(drive: &Drive, frame: &[u8], space: usize) -> Vec<u8> {
-    // "2. The frame is under 96 bytes."
-    if frame.len() < 96 {
-        return vec![2];
-    }
-    // "Frame: credential, request, n data bytes, 32 digest bytes."
-    let c = Credential::read(&frame[..36]);
-    let r = Request::read(&frame[36..64]);
-    let (signed_all, digest) = frame.split_at(frame.len() - 32);
-    // "The digest is HMAC under the credential key over credential and request, and the data too from level 1."
-    let signed = if r.level >= 1 { signed_all } else { &frame[..64] };
-    let data = &signed_all[64..];
-
+/// Rows 3 to 23 and 31 to 34 that apply, in their order. The drive's mark and memories are already those of this call.
+fn rows_that_apply(drive: &Drive, medium: &[u8], frame: &Frame, space: usize) -> Vec<u8> {
+    let Frame { c, r, data, digest, .. } = frame;
     let op = r.operation;
     let none = Partition::default();
     let partition = drive.partitions.get(c.partition as usize).unwrap_or(&none);
@@ -58,9 +53,12 @@ fn rows_that_apply(drive: &Drive, frame: &[u8], space: usize) -> Vec<u8> {
     let memory = drive.memory(c.slot, c.partition).unwrap_or(&nothing);
     let key = drive.key(c.slot, c.partition);
     // Change 2: "Each memory entry, and so row 12's nonce, has the credential's object too."
-    let nonce = Nonce::of(&c, &r);
+    let nonce = Nonce::of(c, r);
     // Change 5: the table "that earlier grants loaded", or document 01's rule.
-    let need = drive.need(&c, op);
+    let need = drive.need(c, op);
+    // Change 6: "Version is the group object's; range, size, result .. are the member's".
+    let target = partition.find(frame.target());
+    let group = object.filter(|_| frame.is_through_a_group()).map(|o| drive.bytes(medium, c.partition as usize, o));
 
     // "Sums in rules are whole numbers and never wrap."
     let mark = drive.mark as u128;
@@ -70,19 +68,19 @@ fn rows_that_apply(drive: &Drive, frame: &[u8], space: usize) -> Vec<u8> {
 
     let rows = [
         // Bytes 0–1 or 36–37 are not the marks.
-        (3, row_3(&c, &r)),
+        (3, row_3(c, r)),
         // A field is outside the values above.
-        (4, row_4(&c, &r)),
-        // n is not 0, B, 16, 21 by the operation, or the frame is not as long as its parts together, 96 + n bytes.
-        (5, row_5_records(&r) || frame.len() as u64 != 96 + r.n as u64),
+        (4, row_4(c, r)),
+        // n is not 0, B, 16, 21 by the operation, or the frame is not as long as its parts together, 96 + n bytes, or 100 + n.
+        (5, row_5_records(r) || frame.length() != r.frame_length()),
         // Operation misfits.
-        (6, row_6(&c, &r)),
+        (6, row_6(c, r)),
         // The level is under the credential's least, or under what the operation needs.
-        (7, row_7(&c, &r, need)),
+        (7, row_7(c, r, need)),
         // The named key was never set.
         (8, key.is_none()),
         // The digest differs.
-        (9, key.is_some_and(|k| hmac(&hmac(&k, &frame[..36]), signed) != digest)),
+        (9, key.is_some_and(|k| frame.digest_due(&k) != *digest)),
         // The mark is over the expiry.
         (10, drive.mark > c.expiry),
         // T + 5,000 is under the mark, or T is over the mark + 5,000.
@@ -95,10 +93,16 @@ fn rows_that_apply(drive: &Drive, frame: &[u8], space: usize) -> Vec<u8> {
         (14, c.object != 0 && object.is_none()),
         // Operations 1–6: the version is not the present one.
         (15, (1..=6).contains(&op) && partition.present_version(c.object).is_some_and(|v| v != c.version)),
+        // Change 6: "Turned away: 32, after row 15, when the group's bytes are no such list;
+        (32, group.is_some_and(|bytes| !is_list(bytes))),
+        // 33, next, when the member is not in it;
+        (33, group.is_some_and(|bytes| !lists(bytes, r.member))),
+        // 34, next, when the member does not exist."
+        (34, frame.is_through_a_group() && target.is_none()),
         // Operations 1, 2: not (first ≤ A and A + B ≤ end).
         (16, reads_or_writes && !(c.first <= r.a && a_plus_b <= c.end as u64)),
         // Operations 1, 2: A + B is over the size.
-        (17, reads_or_writes && object.is_some_and(|o| a_plus_b > o.size as u64)),
+        (17, reads_or_writes && target.is_some_and(|o| a_plus_b > o.size as u64)),
         // Create: the number is taken.
         (18, op == CREATE && partition.find(r.a).is_some()),
         // Create: 16 objects exist.
@@ -118,33 +122,46 @@ fn rows_that_apply(drive: &Drive, frame: &[u8], space: usize) -> Vec<u8> {
 }
 
 /// What a grant does. No row applies, so every field is within its values.
-fn grant(drive: &mut Drive, medium: &mut [u8], frame: &[u8]) -> Vec<u8> {
-    let c = Credential::read(&frame[..36]);
-    let r = Request::read(&frame[36..64]);
-    let data = &frame[64..frame.len() - 32];
-    let p = c.partition as usize;
+fn grant(drive: &mut Drive, medium: &mut [u8], frame: &Frame) -> Vec<u8> {
+    let c = &frame.c;
     let signing_key = drive.key(c.slot, c.partition).unwrap();
-    let credential_key = hmac(&signing_key, &frame[..36]);
-    let quarter = drive.quarter();
+    let result = match frame.r.operation {
+        READ | WRITE | LOOK => reach(drive, medium, frame),
+        RAISE | CREATE | DELETE => change(drive, medium, frame),
+        _ => rule(drive, frame, &signing_key),
+    };
+    // "A grant enters (slot, holder, T, count)." Change 2: "Each memory entry, and so row 12's nonce, has the credential's object
+    // too."
+    drive.memory_mut(c.slot, c.partition).push(Nonce::of(c, &frame.r));
+    reply(frame, &result, &frame.credential_key(&signing_key))
+}
 
-    let result: Vec<u8> = match r.operation {
+/// Operations 1 to 3, on the credential's object. Change 6: or on the member.
+fn reach(drive: &Drive, medium: &mut [u8], frame: &Frame) -> Vec<u8> {
+    let (p, r, number) = (frame.c.partition as usize, &frame.r, frame.target());
+    let partition = &drive.partitions[p];
+    let from = partition.find(number).map_or(0, |o| drive.place(p, o.start)) + r.a as usize;
+    match r.operation {
         // "Read: A offset, B length, both within the object; result the B bytes."
-        READ => {
-            let from = drive.place(p, drive.partitions[p].find(c.object).unwrap().start + r.a);
-            medium[from..from + r.b as usize].to_vec()
-        }
+        READ => medium[from..from + r.b as usize].to_vec(),
         // "Write: A offset, B = n .. Result empty."
         WRITE => {
-            let from = drive.place(p, drive.partitions[p].find(c.object).unwrap().start + r.a);
-            medium[from..from + r.b as usize].copy_from_slice(data);
+            medium[from..from + r.b as usize].copy_from_slice(frame.data);
             vec![]
         }
         // "Look: result size (the quarter's for object 0) and version, four bytes each."
-        LOOK => {
-            let size = drive.partitions[p].find(c.object).map_or(quarter, |o| o.size);
-            let version = drive.partitions[p].present_version(c.object).unwrap();
-            [size.to_be_bytes(), version.to_be_bytes()].concat()
+        _ => {
+            let size = partition.find(number).map_or(drive.quarter(), |o| o.size);
+            [size.to_be_bytes(), partition.present_version(number).unwrap().to_be_bytes()].concat()
         }
+    }
+}
+
+/// Operations 4 to 6.
+fn change(drive: &mut Drive, medium: &mut [u8], frame: &Frame) -> Vec<u8> {
+    let (c, r) = (&frame.c, &frame.r);
+    let p = c.partition as usize;
+    match r.operation {
         // "Raise: object or partition gets the next version; result that version in four bytes."
         RAISE => {
             let partition = &mut drive.partitions[p];
@@ -158,7 +175,7 @@ fn grant(drive: &mut Drive, medium: &mut [u8], frame: &[u8]) -> Vec<u8> {
         // "Create, on object 0: A new number, B size .. The area .. is zeroed. It gets the next version; result that version
         // in four bytes."
         CREATE => {
-            let start = chosen_start(quarter, &areas(&drive.partitions[p].objects), r.b).unwrap();
+            let start = chosen_start(drive.quarter(), &areas(&drive.partitions[p].objects), r.b).unwrap();
             let from = drive.place(p, start);
             medium[from..from + r.b as usize].fill(0);
             let partition = &mut drive.partitions[p];
@@ -167,41 +184,40 @@ fn grant(drive: &mut Drive, medium: &mut [u8], frame: &[u8]) -> Vec<u8> {
             partition.last_given.to_be_bytes().to_vec()
         }
         // "Delete: the object goes; its bytes are free again. Result empty."
-        DELETE => {
+        _ => {
             drive.partitions[p].objects.retain(|o| o.number != c.object);
             vec![]
         }
-        // "Set key: data is a 16-byte seed. Slot 4 sets the drive key, slot 3 partition A's key, slot 2 working key A (0 or
-        // 1). New key = HMAC(key in the signing slot, request and seed). Result empty; lower keys keep their values."
-        SET_KEY => {
-            let new_key = Some(hmac(&signing_key, &frame[36..80]));
-            match c.slot {
-                4 => drive.drive = new_key,
-                3 => drive.partitions[r.a as usize].key = new_key,
-                _ => drive.partitions[p].working[r.a as usize] = new_key,
-            }
-            vec![]
-        }
+    }
+}
+
+/// Operations 7 and 8.
+fn rule(drive: &mut Drive, frame: &Frame, signing_key: &Key) -> Vec<u8> {
+    let (c, a) = (&frame.c, frame.r.a as usize);
+    let p = c.partition as usize;
+    // "New key = HMAC(key in the signing slot, request and seed)."
+    let new_key = Some(hmac(signing_key, &[frame.request, frame.data].concat()));
+    match (frame.r.operation, c.slot) {
         // Change 5: "Operation 8 .. loads [the partition's table] from 21 data bytes"; "empty result".
-        LOAD => {
-            drive.partitions[p].table = Table::read(data);
-            vec![]
-        }
-        _ => unreachable!(),
-    };
+        (LOAD, _) => drive.partitions[p].table = Table::read(frame.data),
+        // "Set key: data is a 16-byte seed. Slot 4 sets the drive key, slot 3 partition A's key, slot 2 working key A (0 or
+        // 1). .. Result empty; lower keys keep their values."
+        (_, 4) => drive.drive = new_key,
+        (_, 3) => drive.partitions[a].key = new_key,
+        _ => drive.partitions[p].working[a] = new_key,
+    }
+    vec![]
+}
 
-    // "A grant enters (slot, holder, T, count)." Change 2: "Each memory entry, and so row 12's nonce, has the credential's object
-    // too."
-    drive.memory_mut(c.slot, c.partition).push(Nonce::of(&c, &r));
-
-    // "Reply: mark 4C 41, operation, level, result length (four bytes), result; at level 2, then HMAC under the credential key
-    // over credential, request, those 8 bytes and result."
+/// "Reply: mark 4C 41, operation, level, result length (four bytes), result; at level 2, then HMAC under the credential key over
+/// credential, request, those 8 bytes and result."
+fn reply(frame: &Frame, result: &[u8], credential_key: &Digest) -> Vec<u8> {
     let mut reply = REPLY_MARK.to_vec();
-    reply.extend([r.operation, r.level]);
+    reply.extend([frame.r.operation, frame.r.level]);
     reply.extend((result.len() as u32).to_be_bytes());
-    reply.extend(&result);
-    if r.level == 2 {
-        let digest = hmac(&credential_key, &[&frame[..64], &reply].concat());
+    reply.extend(result);
+    if frame.r.level == 2 {
+        let digest = hmac(credential_key, &[frame.credential, frame.request, &reply].concat());
         reply.extend(digest);
     }
     reply
@@ -247,7 +263,7 @@ pub(crate) mod tests {
             LOAD => 21,
             _ => 0,
         };
-        Request { mark: REQUEST_MARK, operation, level: 2, time: 10_000, count: 0, a, b, n }
+        Request { mark: REQUEST_MARK, operation, level: 2, time: 10_000, count: 0, a, b, n, member: 0 }
     }
 
     pub(crate) fn frame(c: &Credential, r: &Request, data: &[u8]) -> Vec<u8> {
@@ -258,8 +274,9 @@ pub(crate) mod tests {
         let mut record = [0; 36];
         let (row, key) = issue(key, c, &mut record);
         assert_eq!(row, 0);
-        let mut space = vec![0; 96 + data.len()];
-        assert_eq!(build(&record, &r.bytes(), data, &key, &mut space), (0, 96 + data.len()));
+        let length = r.frame_length() as usize;
+        let mut space = vec![0; length];
+        assert_eq!(build(&record, &r.bytes(), data, &key, &mut space), (0, length));
         space
     }
 

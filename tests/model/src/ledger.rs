@@ -3,6 +3,8 @@
 
 use crate::digest::hmac;
 use crate::drive::{areas, chosen_start, Drive, Key, Object};
+use crate::frame::Frame;
+use crate::group::{is_list, lists};
 use crate::records::*;
 use crate::table::{needed, Need, Table};
 use std::collections::HashSet;
@@ -29,6 +31,24 @@ struct Page {
 impl Page {
     fn position(&self, number: u32) -> Option<usize> {
         self.objects.iter().position(|(o, _)| o.number == number)
+    }
+
+    /// Change 6: "Demand 3 judges rows 32 to 34 as well", by the ledger's own bytes of the group; range and size "are the member's, in the
+    /// ledger too".
+    fn reaches(&self, frame: &Frame) {
+        let (c, r) = (&frame.c, &frame.r);
+        let target = self.position(frame.target());
+        if c.is_of_a_group() {
+            let list = &self.objects[self.position(c.object).expect("row 14")].1;
+            assert!(is_list(list), "row 32");
+            assert!(lists(list, r.member), "row 33");
+            assert!(target.is_some(), "row 34");
+        }
+        let sum = r.a as u64 + r.b as u64;
+        if r.operation <= 2 {
+            assert!(c.first <= r.a && sum <= c.end as u64, "row 16");
+            assert!(sum <= self.objects[target.unwrap()].1.len() as u64, "row 17");
+        }
     }
 }
 
@@ -62,16 +82,17 @@ impl Ledger {
         if row != 0 {
             return;
         }
-        let c = Credential::read(&frame[..36]);
-        let r = Request::read(&frame[36..64]);
+        let frame = Frame::read(frame).expect("row 2");
+        let (c, r) = (&frame.c, &frame.r);
 
         // "No two grants in the whole list share nonce memory, key slot, holder, time and count." Change 2: "What a list of grants
-        // never repeats is then nonce memory, slot, holder, time, count and object together."
+        // never repeats is then nonce memory, slot, holder, time, count and object together." Change 6: "The nonce's object is the
+        // group."
         let memory = if c.slot >= 3 { 4 } else { c.partition };
         let fresh = self.grants.insert((memory, c.slot, c.holder, r.time, r.count, c.object));
         assert!(fresh, "a nonce is granted twice");
-        self.keeps(frame, &c, &r);
-        self.enter(frame, &c, &r, reply);
+        self.keeps(&frame);
+        self.enter(&frame, reply);
     }
 
     fn key(&self, c: &Credential) -> Option<Key> {
@@ -86,41 +107,39 @@ impl Ledger {
     /// "Rights, expiry, range, key and version are kept when none of rows 8–10 and 13–17 applies, judged by the ledger before the call,
     /// but with the mark that this call sets." Change 5: "a grant keeps to the table that earlier grants loaded", so that row 7 is one
     /// of these rows.
-    fn keeps(&self, frame: &[u8], c: &Credential, r: &Request) {
+    fn keeps(&self, frame: &Frame) {
+        let (c, r) = (&frame.c, &frame.r);
         let page = &self.partitions[c.partition as usize];
         let need = needed(&page.table, c.slot, r.operation).unwrap();
         assert!(!row_7(c, r, Some(need)), "row 7");
         let key = self.key(c).expect("row 8");
-        let signed = if r.level > 0 { &frame[..frame.len() - 32] } else { &frame[..64] };
-        assert_eq!(hmac(&hmac(&key, &frame[..36]), signed), frame[frame.len() - 32..], "row 9");
+        assert_eq!(frame.digest_due(&key), frame.digest, "row 9");
         assert!(self.mark <= c.expiry, "row 10");
         assert!(need.rights_met(c.rights), "row 13");
         let at = page.position(c.object);
         assert!(c.object == 0 || at.is_some(), "row 14");
-        // Change 5: "a grant of operation 8, like one that sets a key, is bound to no version".
+        // Change 5: "a grant of operation 8, like one that sets a key, is bound to no version". Change 6: "Version is the group object's".
         if r.operation <= 6 {
             let version = at.map_or(page.version, |i| page.objects[i].0.version);
             assert_eq!(c.version, version, "row 15");
         }
-        let sum = r.a as u64 + r.b as u64;
-        if r.operation <= 2 {
-            assert!(c.first <= r.a && sum <= c.end as u64, "row 16");
-            assert!(sum <= page.objects[at.unwrap()].1.len() as u64, "row 17");
-        }
+        page.reaches(frame);
     }
 
     /// "A grant then does as follows."
-    fn enter(&mut self, frame: &[u8], c: &Credential, r: &Request, reply: &[u8]) {
-        let data = &frame[64..frame.len() - 32];
+    fn enter(&mut self, frame: &Frame, reply: &[u8]) {
+        let (c, r) = (&frame.c, &frame.r);
         let page = &mut self.partitions[c.partition as usize];
         let at = page.position(c.object);
+        // Change 6: "the granted writes that a read shows are the member's, in the ledger too".
+        let target = page.position(frame.target());
         let (a, b) = (r.a as usize, r.b as usize);
         match r.operation {
             // "A granted read's result is the bytes from A up to A + B of the ledger's object."
-            READ => assert_eq!(reply[8..8 + b], page.objects[at.unwrap()].1[a..a + b], "a read shows other bytes"),
+            READ => assert_eq!(reply[8..8 + b], page.objects[target.unwrap()].1[a..a + b], "a read shows other bytes"),
             LOOK => {}
             // "the data replaces the object's bytes from A up to A + B"
-            WRITE => page.objects[at.unwrap()].1[a..a + b].copy_from_slice(data),
+            WRITE => page.objects[target.unwrap()].1[a..a + b].copy_from_slice(frame.data),
             // "last given rises by one; the object, or for object 0 the partition, has it as version"
             RAISE => {
                 page.last_given += 1;
@@ -143,14 +162,15 @@ impl Ledger {
                 page.objects.remove(at.unwrap());
             }
             // Change 5: "Operation 8 .. loads it from 21 data bytes".
-            LOAD => page.table = Table::read(data),
-            _ => self.set_key(frame, c, a),
+            LOAD => page.table = Table::read(frame.data),
+            _ => self.set_key(frame),
         }
     }
 
     /// "keys change by operation 7, from the ledger's signing key"
-    fn set_key(&mut self, frame: &[u8], c: &Credential, a: usize) {
-        let new = hmac(&self.key(c).unwrap(), &frame[36..80]);
+    fn set_key(&mut self, frame: &Frame) {
+        let (c, a) = (&frame.c, frame.r.a as usize);
+        let new = hmac(&self.key(c).unwrap(), &[frame.request, frame.data].concat());
         match c.slot {
             4 => self.drive = new,
             3 => self.partitions[a].key = Some(new),
@@ -299,6 +319,113 @@ mod tests {
         drive.partitions[3].table.0[6] = odd;
         ledger.need(3, 7, odd);
         ledger.agrees(&drive, &medium);
+    }
+
+    /// A ledger of which object 9 is a group of these bytes, in partition 0, and 5 a log of one byte.
+    fn stacked(list: &[u8]) -> Ledger {
+        let mut ledger = ledger();
+        let (object, bytes) = &mut ledger.partitions[0].objects[1];
+        (object.size, object.start, object.version, *bytes) = (list.len() as u32, 9, 4, list.to_vec());
+        ledger
+    }
+
+    /// Feeds a granted operation on a member through that group, of one byte where it reads or writes, that was answered by `shown`.
+    fn granted_through(ledger: &mut Ledger, change: Credential, r: Request, shown: u8) {
+        let r = Request { mark: GROUP_MARK, b: (r.operation != LOOK) as u32, n: (r.operation == WRITE) as u32, ..r };
+        ledger.call(&frame(&change, &r, &vec![7; r.n as usize]), 10_000, 0, &[0, 0, 0, 0, 0, 0, 0, 0, shown]);
+    }
+
+    fn of_the_group() -> Credential {
+        Credential { rights: 0xff, version: 4, ..credential() }
+    }
+
+    fn on(member: u32, operation: u8, count: u32) -> Request {
+        Request { member, count, ..request(operation, 0, 0) }
+    }
+
+    const LIST: [u8; 12] = [0, 0, 0, 5, 0, 0, 0, 9, 0, 0, 0, 10]; // there is no object 10
+
+    /// "the granted writes that a read shows are the member's, in the ledger too"
+    #[test]
+    fn writes_through_a_group_are_the_members() {
+        let mut ledger = stacked(&LIST);
+        granted_through(&mut ledger, of_the_group(), on(5, WRITE, 1), 0);
+        granted_through(&mut ledger, of_the_group(), on(5, READ, 2), 7);
+        let own = |count| frame(&Credential { object: 5, ..credential() }, &Request { count, b: 1, ..request(READ, 0, 0) }, &[]);
+        ledger.call(&own(3), 10_000, 0, &[0, 0, 0, 0, 0, 0, 0, 0, 7]);
+        assert_eq!((&ledger.partitions[0].objects[0].1[..], &ledger.partitions[0].objects[1].1[..]), (&[7][..], &LIST[..]));
+        granted_through(&mut ledger, of_the_group(), on(9, WRITE, 4), 0); // its own list, which starts with 7 from now on
+        assert_eq!(ledger.partitions[0].objects[1].1[..4], [7, 0, 0, 5]);
+    }
+
+    #[test]
+    #[should_panic(expected = "a read shows other bytes")]
+    fn a_read_through_a_group_shows_the_groups_bytes() {
+        let mut ledger = stacked(&[0, 0, 0, 5, 7, 0, 0, 9]);
+        granted_through(&mut ledger, of_the_group(), on(5, READ, 1), 7);
+    }
+
+    #[test]
+    #[should_panic(expected = "row 32")]
+    fn a_grant_through_a_broken_list() {
+        granted_through(&mut stacked(&[0, 0, 0, 5, 0, 0, 0, 5]), of_the_group(), on(5, LOOK, 1), 0);
+    }
+
+    /// The ledger's own bytes, after the grants so far.
+    #[test]
+    #[should_panic(expected = "row 32")]
+    fn a_grant_through_a_list_that_a_grant_broke() {
+        let mut ledger = stacked(&LIST);
+        granted_through(&mut ledger, of_the_group(), on(9, WRITE, 1), 0);
+        granted_through(&mut ledger, of_the_group(), on(9, LOOK, 2), 0);
+    }
+
+    #[test]
+    #[should_panic(expected = "row 33")]
+    fn a_grant_to_a_member_that_is_not_listed() {
+        granted_through(&mut stacked(&[0, 0, 0, 9]), of_the_group(), on(5, LOOK, 1), 0);
+    }
+
+    #[test]
+    #[should_panic(expected = "row 34")]
+    fn a_grant_to_a_member_that_does_not_exist() {
+        granted_through(&mut stacked(&LIST), of_the_group(), on(10, LOOK, 1), 0);
+    }
+
+    #[test]
+    #[should_panic(expected = "row 15")]
+    fn a_grant_by_the_members_version() {
+        granted_through(&mut stacked(&LIST), Credential { version: 2, ..of_the_group() }, on(5, LOOK, 1), 0);
+    }
+
+    #[test]
+    #[should_panic(expected = "row 16")]
+    fn a_grant_out_of_the_range() {
+        granted_through(&mut stacked(&LIST), Credential { end: 0, ..of_the_group() }, on(5, READ, 1), 0);
+    }
+
+    /// A byte of the group's size, and not of the member's.
+    #[test]
+    #[should_panic(expected = "row 17")]
+    fn a_grant_over_the_members_size() {
+        granted_through(&mut stacked(&LIST), of_the_group(), Request { a: 1, ..on(5, READ, 1) }, 0);
+    }
+
+    #[test]
+    #[should_panic(expected = "a nonce is granted twice")]
+    fn two_members_under_one_nonce() {
+        let mut ledger = stacked(&LIST);
+        granted_through(&mut ledger, of_the_group(), on(5, LOOK, 1), 0);
+        granted_through(&mut ledger, of_the_group(), on(9, LOOK, 1), 0);
+    }
+
+    /// A group's nonce is not its member's.
+    #[test]
+    fn a_member_and_its_group_under_one_nonce() {
+        let mut ledger = stacked(&LIST);
+        granted_through(&mut ledger, of_the_group(), on(5, LOOK, 1), 0);
+        let own = frame(&Credential { object: 5, ..credential() }, &Request { count: 1, ..request(LOOK, 0, 0) }, &[]);
+        ledger.call(&own, 10_000, 0, &[]);
     }
 
     #[test]

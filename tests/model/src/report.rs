@@ -100,15 +100,16 @@ mod tests {
     }
 
     fn request(operation: u8, a: u32, n: u32) -> Request {
-        Request { mark: REQUEST_MARK, operation, level: 1, time: 0, count: 0, a, b: 0, n }
+        Request { mark: REQUEST_MARK, operation, level: 1, time: 0, count: 0, a, b: 0, n, member: 0 }
     }
 
     fn frame(c: &Credential, r: &Request, data: &[u8], key: &[u8]) -> Vec<u8> {
         let credential = c.bytes();
-        let mut space = vec![0; 96 + data.len()];
+        let length = r.frame_length() as usize;
+        let mut space = vec![0; length];
         let (row, secret) = issue(key, c, &mut [0; 36]);
         assert_eq!(row, 0);
-        assert_eq!(build(&credential, &r.bytes(), data, &secret, &mut space), (0, 96 + data.len()));
+        assert_eq!(build(&credential, &r.bytes(), data, &secret, &mut space), (0, length));
         space
     }
 
@@ -208,6 +209,34 @@ mod tests {
         let good = Table::default().bytes();
         let calls = [partition_key, load(1, &[0; 21]), load(2, &good), load(2, &good), load(3, &[255; 21])];
         assert_eq!(printed_of(&calls), "0 0 1\n2 0 1\n2 12 1\n2 31 2\ncalls 5\n");
+    }
+
+    /// Rows 32 to 34 count under the group's partition.
+    #[test]
+    fn report_of_rows_32_to_34() {
+        let (partition_key, made) = set_key(0, 3, 2, &[1; 32]);
+        let (working_key, black) = set_key(2, 2, 0, &made);
+        let own = |object, count, operation, a, b, data: &[u8]| {
+            let c = Credential { object, version: 1 + (object != 0) as u32, end: 9, ..credential(2, 0) };
+            frame(&c, &Request { count, b, ..request(operation, a, data.len() as u32) }, data, &black)
+        };
+        let look = |count, member| {
+            let c = Credential { object: 5, version: 2, rights: 0x84, ..credential(2, 0) };
+            frame(&c, &Request { mark: GROUP_MARK, count, member, ..request(LOOK, 0, 0) }, &[], &black)
+        };
+        let list = [0, 0, 0, 5, 0, 0, 0, 9];
+        let calls = [
+            partition_key,
+            working_key,
+            own(0, 1, CREATE, 5, 8, &[]),
+            look(2, 5),
+            own(5, 3, WRITE, 0, 8, &list),
+            look(4, 5),
+            look(5, 8),
+            look(6, 9),
+            look(7, 0),
+        ];
+        assert_eq!(printed_of(&calls), "0 0 1\n2 0 4\n2 32 1\n2 33 2\n2 34 1\ncalls 9\n");
     }
 
     /// Partitions rise, `none` is last, and in each the rows rise as numbers, whatever the order of the calls.

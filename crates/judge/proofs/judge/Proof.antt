@@ -7,14 +7,14 @@ use Rattle.judge.proofs.judge.Tie as tie
 
 returns : tie.Need-returns
 unfolding partitionIn
-returns c = λ s payload w.
+returns c = λ s payload group w.
     rw (
       c .time-row .ensures,
       c .before .object-row .ensures,
       c .before .before .room-row .ensures,
       c .before .before .before .present-version .ensures,
       c .before .before .before .before .number-at .ensures,
-    ) (rows-by-facts s _ _ _ _ _ _ payload _ _ _ _ w)
+    ) (rows-by-facts s _ _ _ _ _ _ payload group _ _ _ _ _ _ w)
 
 pub judge-spec : {M : Type 1} → statement M
 judge-spec =

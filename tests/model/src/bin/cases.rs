@@ -9,7 +9,7 @@
 //!  1       fill: every byte of the space is set to it before a build or an issue
 //!  2 –  3  0
 //!  4 –  7  credential length, 36 for an issue: its bytes give the fields
-//!  8 – 11  request length, 0 for an issue
+//!  8 – 11  request length, mostly 28, or 32 with mark 4C 47; 0 for an issue
 //! 12 – 15  key length; for an issue it is the slot's key
 //! 16 – 19  data length for a build, reply length for a check, 32 for an issue
 //! 20 – 23  space length for a build or an issue, 0 for a check
@@ -30,7 +30,10 @@ use model::rng::Rng;
 use std::collections::BTreeMap;
 use std::fs::write;
 
-/// Two records that rows 3 to 7 let through, of any of the eight operations.
+/// So many of a hundred reads, writes and looks go through a group.
+const THROUGH_A_GROUP: u64 = 50;
+
+/// Two records that rows 3 to 7 let through, of any of the eight operations, in either form.
 fn valid(rng: &mut Rng) -> (Credential, Request) {
     let operation = 1 + rng.below(8) as u8;
     let slot = match operation {
@@ -65,7 +68,18 @@ fn valid(rng: &mut Rng) -> (Credential, Request) {
         holder: rng.next() as u32,
     };
     let (time, count, n) = (rng.next(), rng.next() as u32, data_length(operation, b));
-    (c, Request { mark: REQUEST_MARK, operation, level, time, count, a, b, n })
+    let (mut c, mut r) = (c, Request { mark: REQUEST_MARK, operation, level, time, count, a, b, n, member: 0 });
+    if operation <= LOOK && rng.chance(THROUGH_A_GROUP) {
+        (c.rights, c.object) = (c.rights | GROUP_BIT, c.object.max(1));
+        (r.mark, r.member) = (GROUP_MARK, some_member(rng));
+    }
+    (c, r)
+}
+
+/// A member may be any number.
+fn some_member(rng: &mut Rng) -> u32 {
+    let any = rng.next() as u32;
+    rng.pick(&[0, 1, any, any, u32::MAX])
 }
 
 /// The n that row 5 asks for.
@@ -82,7 +96,7 @@ fn data_length(operation: u8, b: u32) -> u32 {
 fn damage(rng: &mut Rng, c: &mut Credential, r: &mut Request) {
     let bit = 1u8 << rng.below(8);
     let high = 1u32 << rng.below(32);
-    match rng.below(18) {
+    match rng.below(22) {
         0 => c.mark[rng.below(2) as usize] ^= bit,
         1 => r.mark[rng.below(2) as usize] ^= bit,
         2 => c.partition = rng.pick(&[0, 1, 3, 4, 255]),
@@ -100,6 +114,10 @@ fn damage(rng: &mut Rng, c: &mut Credential, r: &mut Request) {
         14 => (c.slot, c.partition) = (3 + rng.below(2) as u8, rng.below(4) as u8),
         15 => r.b = rng.pick(&[4_194_304, 4_194_305]),
         16 => (c.least, r.level) = (0, 0),
+        17 => c.rights ^= GROUP_BIT,
+        18 => r.mark = if r.is_of_a_group() { REQUEST_MARK } else { GROUP_MARK },
+        19 => (c.rights, r.mark) = (c.rights | GROUP_BIT, GROUP_MARK),
+        20 => r.mark = rng.pick(&[[0x4c, 0x46], [0x4c, 0x57], [0x47, 0x4c], REPLY_MARK, CREDENTIAL_MARK]),
         _ => (c.least, r.level) = (1 + rng.below(2) as u8, rng.below(2) as u8),
     }
 }
@@ -145,8 +163,8 @@ fn build_case(out: &mut Vec<u8>, rng: &mut Rng, parts: &Parts, space: usize) -> 
     row
 }
 
-/// C's issuer takes fields: mark and zero byte are always the right ones.
-fn issue_case(out: &mut Vec<u8>, rng: &mut Rng) -> u8 {
+/// C's issuer takes fields: mark and zero byte are always the right ones. Which credential it is, and its row.
+fn issue_case(out: &mut Vec<u8>, rng: &mut Rng) -> (&'static str, u8) {
     let (mut c, mut r) = valid(rng);
     for _ in 0..rng.below(4) {
         damage(rng, &mut c, &mut r);
@@ -165,7 +183,12 @@ fn issue_case(out: &mut Vec<u8>, rng: &mut Rng) -> u8 {
     let parts = Parts { credential: c.bytes(), request: vec![], key, data: secret.to_vec() };
     put(out, b'I', fill, &parts, space, row, 0, length);
     out.extend(&written[..length]);
-    row
+    let name = match (c.is_of_a_group(), c.object) {
+        (false, _) => "issue",
+        (_, 0) => "issue of a group credential for object 0",
+        _ => "issue of a group credential",
+    };
+    (name, row)
 }
 
 fn check_case(out: &mut Vec<u8>, parts: &Parts) -> u8 {
@@ -196,7 +219,7 @@ fn spoil_reply(rng: &mut Rng, parts: &Parts, r: &Request, reply: &mut Vec<u8>) {
             reply[at] ^= 1 << rng.below(8);
         }
     };
-    match rng.below(9) {
+    match rng.below(if r.is_of_a_group() { 13 } else { 9 }) {
         0 => reply.truncate(8), // the head alone
         1 => {
             let length = rng.below(reply.len() as u64) as usize;
@@ -208,16 +231,19 @@ fn spoil_reply(rng: &mut Rng, parts: &Parts, r: &Request, reply: &mut Vec<u8>) {
         }
         4 => reply[rng.below(8) as usize] ^= 1 << rng.below(8),
         5 => reply.clear(),
-        6 if r.level == 2 => {
-            // Signed, but for another frame.
-            let other = Request { count: r.count ^ 1, ..r.clone() };
-            let end = reply.len() - 32;
-            let digest = hmac(&parts.key, &[&parts.credential[..], &other.bytes(), &reply[..end]].concat());
-            reply[end..].copy_from_slice(&digest);
-        }
+        6 if r.level == 2 => sign_for(parts, &Request { count: r.count ^ 1, ..r.clone() }.bytes(), reply),
+        9 | 10 if r.level == 2 => sign_for(parts, &Request { member: r.member ^ 1, ..r.clone() }.bytes(), reply),
+        11 | 12 if r.level == 2 => sign_for(parts, &parts.request[..REQUEST_BYTES], reply), // without the member
         7 if r.level == 2 => reply.truncate(reply.len() - 32), // no digest
         _ => flip(rng, reply, 8), // under level 2 another result passes: nothing covers it
     }
+}
+
+/// Signs a reply of level 2 for another request.
+fn sign_for(parts: &Parts, request: &[u8], reply: &mut [u8]) {
+    let end = reply.len() - 32;
+    let digest = hmac(&parts.key, &[&parts.credential[..], request, &reply[..end]].concat());
+    reply[end..].copy_from_slice(&digest);
 }
 
 /// How often which row was a call's answer, and why.
@@ -228,6 +254,9 @@ struct Counts(BTreeMap<(String, u8, Why), u64>);
 enum Why {
     Plain,
     ByTheRecords(u8), // one of rows 3 to 7
+    OtherForm,        // the request is as long as one of the other form
+    OneByteShort,     // the space
+    MemberShort,      // the space: as long as for a frame without its member
     Largest,
 }
 
@@ -242,6 +271,9 @@ impl Counts {
             let why = match why {
                 Why::Plain => String::new(),
                 Why::ByTheRecords(row) => format!(" (row {row} met by the records)"),
+                Why::OtherForm => " (a request as long as one of the other form)".to_string(),
+                Why::OneByteShort => " (a byte too few)".to_string(),
+                Why::MemberShort => " (four bytes too few)".to_string(),
                 Why::Largest => " (largest and one over)".to_string(),
             };
             println!("{name} row {row}{why}: {n}");
@@ -249,8 +281,19 @@ impl Counts {
     }
 }
 
-/// One case for the builder or the reply check: which of them, and its row.
-fn one_case(out: &mut Vec<u8>, rng: &mut Rng, c: &Credential, r: &Request, builds: bool) -> (&'static str, u8) {
+/// Which records a case has, for the counts.
+fn form(c: &Credential, r: &Request) -> &'static str {
+    match (c.is_of_a_group(), r.is_of_a_group()) {
+        (true, true) => " of a group request",
+        (true, false) => " of a group credential with another request",
+        (false, true) => " of a group request with another credential",
+        _ if r.operation == LOAD => " of operation 8",
+        _ => "",
+    }
+}
+
+/// One case for the builder or the reply check: its row, and why.
+fn one_case(out: &mut Vec<u8>, rng: &mut Rng, c: &Credential, r: &Request, builds: bool) -> (u8, Why) {
     let slot_key = rng.bytes(32);
     let mut record = [0; 36];
     let (row, key) = issue(&slot_key, c, &mut record);
@@ -259,8 +302,8 @@ fn one_case(out: &mut Vec<u8>, rng: &mut Rng, c: &Credential, r: &Request, build
     let odd = rng.below(100);
     if !builds {
         parts.data = reply_or_nearly(rng, &parts, r);
-        lengths(rng, &mut parts, odd);
-        return ("check", check_case(out, &parts));
+        let of_the_other_form = lengths(rng, &mut parts, odd);
+        return why(check_case(out, &parts), c, r, of_the_other_form, 0);
     }
     parts.data = rng.bytes((r.n as usize).min(2_000));
     if odd == 0 {
@@ -268,15 +311,29 @@ fn one_case(out: &mut Vec<u8>, rng: &mut Rng, c: &Credential, r: &Request, build
     } else if odd == 1 {
         parts.data.pop();
     }
-    lengths(rng, &mut parts, odd);
-    let needed = 96 + parts.data.len();
-    let space = match rng.below(6) {
+    let of_the_other_form = lengths(rng, &mut parts, odd);
+    let needed = 68 + r.bytes().len() + parts.data.len();
+    let space = match rng.below(8) {
         0 => needed - 1,
         1 => rng.below(needed as u64) as usize,
         2 => needed + 1 + rng.below(100) as usize,
+        3 => needed - 4,
         _ => needed,
     };
-    ("build", build_case(out, rng, &parts, space))
+    why(build_case(out, rng, &parts, space), c, r, of_the_other_form, needed.saturating_sub(space))
+}
+
+/// A row, and why it is the answer.
+fn why(row: u8, c: &Credential, r: &Request, of_the_other_form: bool, missing: usize) -> (u8, Why) {
+    let why = match (row, reason(c, r), missing) {
+        (28, 0, _) if of_the_other_form => Why::OtherForm,
+        (28, 0, _) => Why::Plain,
+        (28, met, _) => Why::ByTheRecords(met),
+        (29, _, 1) => Why::OneByteShort,
+        (29, _, 4) => Why::MemberShort,
+        _ => Why::Plain,
+    };
+    (row, why)
 }
 
 /// A reply for these records, good or spoiled; seldom one of many bytes.
@@ -295,12 +352,12 @@ fn reply_or_nearly(rng: &mut Rng, parts: &Parts, r: &Request) -> Vec<u8> {
     good
 }
 
-/// The largest that there are: 1,048,576 bytes of data, 4,194,304 of result, and one more of each.
+/// The largest that there are, in either form: 1,048,576 bytes of data, 4,194,304 of result, and one more of each.
 fn largest_cases(out: &mut Vec<u8>, rng: &mut Rng, counts: &mut Counts) {
-    for more in 0..2 {
+    for (more, of_a_group) in [(0, false), (1, false), (0, true), (1, true)] {
         for (operation, level) in [(WRITE, 1), (READ, 2)] {
             let (mut c, mut r) = valid(rng);
-            while r.operation != operation {
+            while r.operation != operation || r.is_of_a_group() != of_a_group {
                 (c, r) = valid(rng);
             }
             (c.least, r.level) = (0, level);
@@ -309,12 +366,12 @@ fn largest_cases(out: &mut Vec<u8>, rng: &mut Rng, counts: &mut Counts) {
             let mut parts = Parts { credential: c.bytes(), request: r.bytes(), key: rng.bytes(32), data: vec![] };
             let (name, row) = if operation == WRITE {
                 parts.data = rng.bytes(r.n as usize);
-                ("build", build_case(out, rng, &parts, 96 + r.n as usize))
+                ("build", build_case(out, rng, &parts, r.frame_length() as usize))
             } else {
                 parts.data = reply(rng, &parts, &r);
                 ("check", check_case(out, &parts))
             };
-            counts.count(name, row, Why::Largest);
+            counts.count(&format!("{name}{}", form(&c, &r)), row, Why::Largest);
         }
     }
 }
@@ -333,22 +390,21 @@ fn main() {
         for _ in 0..rng.weighted(&[60, 28, 12]) {
             damage(&mut rng, &mut c, &mut r);
         }
-        let (name, row) = one_case(&mut out, &mut rng, &c, &r, i % 2 == 0);
-        let name = if r.operation == LOAD { format!("{name} of operation 8") } else { name.to_string() };
-        let why = if row == 28 { reason(&c, &r) } else { 0 };
-        counts.count(&name, row, if why == 0 { Why::Plain } else { Why::ByTheRecords(why) });
+        let name = format!("{}{}", if i % 2 == 0 { "build" } else { "check" }, form(&c, &r));
+        let (row, why) = one_case(&mut out, &mut rng, &c, &r, i % 2 == 0);
+        counts.count(&name, row, why);
     }
     largest_cases(&mut out, &mut rng, &mut counts);
     for _ in 0..count.div_ceil(4) {
-        let row = issue_case(&mut out, &mut rng);
-        counts.count("issue", row, Why::Plain);
+        let (name, row) = issue_case(&mut out, &mut rng);
+        counts.count(name, row, Why::Plain);
     }
     write(path, out).expect("cannot write OUT");
     counts.print();
 }
 
-/// Now and then a part that is not as long as it must be.
-fn lengths(rng: &mut Rng, parts: &mut Parts, odd: u64) {
+/// Now and then a part that is not as long as it must be; whether it is the request, and as long as one of the other form.
+fn lengths(rng: &mut Rng, parts: &mut Parts, odd: u64) -> bool {
     match odd {
         2 | 3 => misfit(rng, &mut parts.credential),
         4 | 5 => misfit(rng, &mut parts.request),
@@ -357,6 +413,8 @@ fn lengths(rng: &mut Rng, parts: &mut Parts, odd: u64) {
             misfit(rng, &mut parts.key);
             misfit(rng, &mut parts.credential);
         }
+        9..=12 => parts.request.resize(REQUEST_BYTES + GROUP_REQUEST_BYTES - parts.request.len(), 0x4c),
         _ => {}
     }
+    (9..=12).contains(&odd)
 }

@@ -1,6 +1,7 @@
 //! What calls meet of change 5, so that the tests can ask for it.
 
 use crate::drive::Drive;
+use crate::frame::Frame;
 use crate::records::*;
 use crate::table::*;
 
@@ -108,10 +109,7 @@ pub struct Since {
 impl Since {
     /// Of a call put to this drive, answered by this row, what matters to each partition's table.
     pub fn follow(all: &mut [Since; 4], before: &Drive, frame: &[u8], row: u8) {
-        if frame.len() < 96 || (1..=6).contains(&row) {
-            return;
-        }
-        let (c, r) = (Credential::read(&frame[..36]), Request::read(&frame[36..64]));
+        let Some(Frame { c, r, .. }) = Frame::read(frame).filter(|_| !(1..=6).contains(&row)) else { return };
         let p = c.partition as usize;
         let event = match (r.operation, row) {
             (READ | WRITE | LOOK, 0) => 0,
@@ -151,12 +149,12 @@ impl Asked {
         if rows.first().is_some_and(|row| *row < 7) {
             return None;
         }
-        let c = Credential::read(&frame[..36]);
+        let Frame { c, r, data, .. } = Frame::read(frame)?;
         Some(Asked {
             since: since[c.partition as usize].clone(),
             c,
-            r: Request::read(&frame[36..64]),
-            data: frame[64..frame.len() - 32].to_vec(),
+            r,
+            data: data.to_vec(),
             rows: rows.to_vec(),
             tables: [0, 1, 2, 3].map(|p: usize| before.partitions[p].table.clone()),
             formatted: before.master.is_some(),
@@ -184,12 +182,12 @@ impl Asked {
     }
 
     /// What it needs by its partition's table, where the table is asked.
-    fn by_the_table(&self) -> Option<Need> {
+    pub fn by_the_table(&self) -> Option<Need> {
         self.table().line(self.r.operation).filter(|_| self.c.slot <= 2)
     }
 
     /// Whether a loaded table gave another answer than document 01's rule.
-    fn decided_by_a_load(&self) -> bool {
+    pub fn decided_by_a_load(&self) -> bool {
         let loaded = self.since.replaced.is_some() && self.by_the_table().is_some();
         loaded && self.row_by(document_01(self.r.operation).unwrap()) != self.row()
     }
@@ -303,11 +301,8 @@ impl Asked {
 
 /// Which of [`NEAR_LOADS`] a frame is that was answered by this row, if it is one.
 pub fn near_load(frame: &[u8], row: u8) -> Option<usize> {
-    if frame.len() < 96 || !matches!(row, 5 | 6 | 7 | 13) || frame[38] != LOAD {
-        return None;
-    }
-    let (c, r) = (Credential::read(&frame[..36]), Request::read(&frame[36..64]));
-    let whole = frame.len() == 96 + r.n as usize;
+    let frame = Frame::read(frame).filter(|f| f.r.operation == LOAD && !f.c.is_of_a_group() && !f.r.is_of_a_group())?;
+    let (c, r, whole) = (&frame.c, &frame.r, frame.length() == frame.r.frame_length());
     let misfits = [c.slot < 2, c.slot > 2, c.object != 0, c.version != 0, r.a != 0, r.b != 0];
     let near = [
         row == 5 && whole && r.n as usize == TABLE_BYTES - 1,

@@ -3,6 +3,7 @@
 use super::Traffic;
 use crate::digest::hmac;
 use crate::drive::*;
+use crate::frame::Frame;
 use crate::records::*;
 use crate::rng::Rng;
 use crate::table::{Table, ALL_RIGHTS, MOST_LEVEL};
@@ -22,9 +23,37 @@ pub(super) struct Draft {
     pub(super) r: Request,
     pub(super) data: Vec<u8>,
     pub(super) sign: Sign,
+    pub(super) memberless: bool, // a group's request without its last four bytes, and signed so
     pub(super) cut_to: Option<usize>,
     pub(super) cut: usize, // bytes off the end
     pub(super) add: usize, // bytes more
+}
+
+impl Draft {
+    pub(super) fn is_through_a_group(&self) -> bool {
+        self.c.is_of_a_group() && self.r.is_of_a_group()
+    }
+
+    /// The object that is read, written or looked at.
+    pub(super) fn target(&self) -> u32 {
+        if self.is_through_a_group() {
+            self.r.member
+        } else {
+            self.c.object
+        }
+    }
+
+    /// Takes what it asks to a member of its object.
+    pub(super) fn go_through(&mut self, member: u32) {
+        self.c.rights |= GROUP_BIT;
+        (self.r.mark, self.r.member) = (GROUP_MARK, member);
+    }
+
+    /// The other way round.
+    pub(super) fn go_straight(&mut self) {
+        self.c.rights &= !GROUP_BIT;
+        (self.r.mark, self.r.member) = (REQUEST_MARK, 0);
+    }
 }
 
 impl Traffic<'_> {
@@ -68,9 +97,11 @@ impl Traffic<'_> {
                 a,
                 b,
                 n: data.len() as u32,
+                member: 0,
             },
             data,
             sign: Sign::Right,
+            memberless: false,
             cut_to: None,
             cut: 0,
             add: 0,
@@ -103,11 +134,14 @@ impl Traffic<'_> {
         let p = if place < 4 { place } else { self.rng.below(4) as u8 };
         let (fitting, forced) = self.fitting_operation(wants);
         let op = if place == 4 && !forced { SET_KEY } else { self.possible_operation(fitting, p, wants, forced) };
-        let mut draft = match op {
-            SET_KEY => self.key_draft(mark, place, p),
-            LOAD => self.load_draft(mark, p),
+        let through = self.group_draft(mark, op, p, wants);
+        let mut draft = match (op, through) {
+            (SET_KEY, _) => self.key_draft(mark, place, p),
+            (LOAD, _) => self.load_draft(mark, p),
+            (_, Some(draft)) => draft,
             _ => self.object_draft(mark, op, p, wants),
         };
+        self.write_a_list(&mut draft);
         self.vary(&mut draft, mark);
         draft
     }
@@ -124,6 +158,7 @@ impl Traffic<'_> {
                 18..=20 => &[5],
                 21 => &[4, 5],
                 31 => &[LOAD],
+                32..=34 => &[READ, WRITE, LOOK],
                 _ => continue,
             };
             forced = true;
@@ -181,8 +216,7 @@ impl Traffic<'_> {
     fn object_draft(&mut self, mark: u64, op: u8, p: u8, wants: &[u8]) -> Draft {
         let partition = self.drive.partitions[p as usize].clone();
         let objects = &partition.objects;
-        let set: Vec<u8> = (0..2).filter(|s| partition.working[*s as usize].is_some()).collect();
-        let slot = if set.is_empty() { self.rng.below(2) as u8 } else { self.rng.pick(&set) };
+        let slot = self.working_slot(p);
         let some = |rng: &mut Rng| if objects.is_empty() { 1 } else { rng.pick(objects).number };
         let mut entered: Vec<u32> = vec![]; // objects that a repeat may be for
         if wants.contains(&12) {
@@ -206,8 +240,15 @@ impl Traffic<'_> {
         draft
     }
 
+    /// One whose key is set, if there is one.
+    pub(super) fn working_slot(&mut self, p: u8) -> u8 {
+        let working = self.drive.partitions[p as usize].working;
+        let set: Vec<u8> = (0..2).filter(|slot| working[*slot as usize].is_some()).collect();
+        self.rng.pick(if set.is_empty() { &[0, 1] } else { &set })
+    }
+
     /// First and end around what a read or write asks of an object of this size; other operations may have any.
-    fn give_a_range(&mut self, d: &mut Draft, size: u32) {
+    pub(super) fn give_a_range(&mut self, d: &mut Draft, size: u32) {
         if d.r.operation == READ || d.r.operation == WRITE {
             let (a, end) = (d.r.a, d.r.a.saturating_add(d.r.b));
             (d.c.first, d.c.end) = match self.rng.below(4) {
@@ -223,7 +264,7 @@ impl Traffic<'_> {
     }
 
     /// Offset and length within a size, at its edges.
-    fn range(&mut self, size: u32, write: bool) -> (u32, u32) {
+    pub(super) fn range(&mut self, size: u32, write: bool) -> (u32, u32) {
         let (whole, part) = if write { (1, 48) } else { (25, 200) };
         let most = if self.rng.chance(whole) { size } else { part };
         match self.rng.below(7) {
@@ -284,11 +325,12 @@ impl Traffic<'_> {
         let (needed, level) = self.reachable_need(d);
         d.r.level = level + self.rng.below(3 - level as u64) as u8;
         d.c.least = self.rng.below(d.r.level as u64 + 1) as u8;
-        d.c.rights = match self.rng.below(3) {
+        let rights = match self.rng.below(3) {
             0 => needed,
             1 => 0x7f,
             _ => needed | (self.rng.next() as u16 & 0x7f),
         };
+        d.c.rights = d.c.rights & GROUP_BIT | rights;
         let later = self.rng.below(10_000);
         d.c.expiry = self.rng.pick(&[mark, mark.saturating_add(1), mark.saturating_add(later), u64::MAX]);
         let low = mark.saturating_sub(5_000);
@@ -334,6 +376,8 @@ impl Traffic<'_> {
     pub(super) fn finish(&mut self, d: &Draft) -> Vec<u8> {
         let mut frame = d.c.bytes();
         frame.extend(d.r.bytes());
+        frame.truncate(if d.memberless { CREDENTIAL_BYTES + REQUEST_BYTES } else { frame.len() });
+        let covered = frame.len();
         frame.extend(&d.data);
         let key = match &d.sign {
             Sign::Under(key) => *key,
@@ -343,8 +387,8 @@ impl Traffic<'_> {
             }),
         };
         let over_data = (d.r.level >= 1) != matches!(d.sign, Sign::OtherCover);
-        let signed = if over_data { &frame[..] } else { &frame[..64] };
-        let mut digest = hmac(&hmac(&key, &frame[..36]), signed);
+        let signed = if over_data { &frame[..] } else { &frame[..covered] };
+        let mut digest = hmac(&hmac(&key, &frame[..CREDENTIAL_BYTES]), signed);
         if let Sign::Flip(bit) = d.sign {
             digest[bit / 8] ^= 1 << (bit % 8);
         }
@@ -359,11 +403,13 @@ impl Traffic<'_> {
 
     /// A frame taken apart again, to be changed and signed anew.
     pub(super) fn draft_of(frame: &[u8]) -> Draft {
+        let Frame { c, r, data, .. } = Frame::read(frame).unwrap();
         Draft {
-            c: Credential::read(&frame[..36]),
-            r: Request::read(&frame[36..64]),
-            data: frame[64..frame.len() - 32].to_vec(),
+            c,
+            r,
+            data: data.to_vec(),
             sign: Sign::Right,
+            memberless: false,
             cut_to: None,
             cut: 0,
             add: 0,

@@ -1,15 +1,33 @@
 //! Episodes: the short stories that random calls are made of.
 
 use super::drafts::Draft;
-use super::{Clock, Taste, Traffic};
+use super::{nonce_of, Clock, Taste, Traffic};
 use crate::drive::*;
 use crate::records::*;
 
 /// The rows that calls are aimed at. Of the program's calls none meets rows 21 and 23, and row 22 has its own story.
-const AIMED_AT: [u8; 20] = [2, 3, 4, 5, 6, 7, 8, 9, 10, 11, 12, 13, 14, 15, 16, 17, 18, 19, 20, 31];
-const AIMED_AT_IN_A_LIBRARY: [u8; 23] = [2, 3, 4, 5, 6, 7, 8, 9, 10, 11, 12, 13, 14, 15, 16, 17, 18, 19, 20, 21, 22, 23, 31];
+const AIMED_AT: [u8; 23] = [2, 3, 4, 5, 6, 7, 8, 9, 10, 11, 12, 13, 14, 15, 16, 17, 18, 19, 20, 31, 32, 33, 34];
+const AIMED_AT_IN_A_LIBRARY: [u8; 26] =
+    [2, 3, 4, 5, 6, 7, 8, 9, 10, 11, 12, 13, 14, 15, 16, 17, 18, 19, 20, 21, 22, 23, 31, 32, 33, 34];
 const ROWS_OF_ONE_OPERATION: [[u8; 2]; 10] =
     [[16, 17], [14, 16], [15, 17], [18, 20], [15, 18], [14, 15], [12, 13], [13, 31], [12, 31], [7, 13]];
+/// Of frames that go through a group.
+const ROWS_OF_A_GROUP: [[u8; 2]; 14] = [
+    [12, 32],
+    [12, 33],
+    [13, 32],
+    [13, 34],
+    [15, 32],
+    [15, 33],
+    [15, 34],
+    [32, 33],
+    [33, 34],
+    [16, 32],
+    [16, 33],
+    [16, 34],
+    [17, 32],
+    [17, 33],
+];
 
 impl Traffic<'_> {
     /// All the calls.
@@ -42,8 +60,9 @@ impl Traffic<'_> {
         self.taste = Taste::balanced();
         let p = self.rng.below(4) as u8;
         let steps = if self.library { 20 } else { 12 };
-        let (objects, needs) = (if self.objects_from_outside { 40 } else { 0 }, if self.needs_from_outside { 40 } else { 0 });
-        match self.rng.weighted(&[50, 6, 12, 6, 9, 9, 9, 6, 3, 6, 9, steps, 18, objects, needs]) {
+        let (objects, needs) = (if self.objects_from_outside { 50 } else { 0 }, if self.needs_from_outside { 80 } else { 0 });
+        let (stacks, stacks_too) = (if self.library { 130 } else { 46 }, if self.objects_from_outside { 20 } else { 0 });
+        match self.rng.weighted(&[50, 6, 12, 6, 9, 9, 9, 6, 3, 6, 9, steps, 20, objects, needs, stacks, stacks_too]) {
             0 => self.balanced(),
             1 => {
                 let place = self.rng.below(5) as u8;
@@ -61,7 +80,9 @@ impl Traffic<'_> {
             11 => self.steps(p),
             12 => self.tables(p),
             13 => self.more_objects(p),
-            _ => self.more_needs(p),
+            14 => self.more_needs(p),
+            15 => self.stacks(p),
+            _ => self.groups_from_outside(p),
         }
     }
 
@@ -131,6 +152,8 @@ impl Traffic<'_> {
         // Two of one operation's rows meet seldom by chance.
         if many == 2 && self.rng.chance(25) {
             wants = self.rng.pick(&ROWS_OF_ONE_OPERATION).to_vec();
+        } else if many == 2 && self.rng.chance(20) {
+            wants = self.rng.pick(&ROWS_OF_A_GROUP).to_vec();
         }
         wants
     }
@@ -155,7 +178,8 @@ impl Traffic<'_> {
     fn near_nonce(&mut self) {
         let Some(frame) = self.some_granted() else { return };
         let mut d = Self::draft_of(&frame);
-        match self.rng.below(9) {
+        let ways = if d.is_through_a_group() { 12 } else { 9 };
+        match self.rng.below(ways) {
             0 => d.c.holder ^= 1 << self.rng.below(32),
             1 => d.r.count ^= 1 << self.rng.below(32),
             2 => d.r.time = d.r.time.wrapping_add(1),
@@ -163,6 +187,11 @@ impl Traffic<'_> {
             4 if d.c.slot < 2 => d.c.slot = 1 - d.c.slot,
             5 if d.c.slot == 3 => (d.c.slot, d.r.a) = (4, 0),
             6 | 7 => self.look_elsewhere(&mut d),
+            9 => self.another_member(&mut d), // the same nonce
+            10 | 11 => {
+                d.c.object = self.rng.pick(&[d.c.object, d.r.member]); // the same nonce, or the member's own
+                d.go_straight();
+            }
             _ => d.r.level = 1 + d.r.level % 2, // the same nonce
         }
         if d.r.operation <= 6 {
@@ -185,6 +214,7 @@ impl Traffic<'_> {
         let elsewhere: Vec<u32> = objects.iter().map(|o| o.number).chain([0]).filter(|o| *o != d.c.object).collect();
         if d.c.slot < 2 && !elsewhere.is_empty() {
             d.c.object = self.rng.pick(&elsewhere);
+            d.go_straight();
             (d.r.operation, d.r.a, d.r.b, d.r.n) = (LOOK, 0, 0, 0);
             d.data.clear();
             self.meet_the_need(d);
@@ -279,6 +309,7 @@ impl Traffic<'_> {
     fn fill_memory(&mut self, place: u8) {
         if place < 4 {
             self.ready(place);
+            self.a_group(place);
         }
         self.taste.places = vec![place];
         self.taste.ops = [10, 10, 30, 5, 4, 2, 3, 2];
@@ -291,6 +322,9 @@ impl Traffic<'_> {
         }
         for row in 2..=23 {
             self.one(&[row]);
+        }
+        if place < 4 {
+            self.groups_of_a_full_memory(place);
         }
         for _ in 0..4 {
             self.one(&[31]);
@@ -458,9 +492,9 @@ impl Traffic<'_> {
 
     fn granted_edges(&mut self) {
         let mut frames: Vec<Vec<u8>> = self.granted.iter().rev().take(5).cloned().collect();
-        frames.sort_by_key(|f| Request::read(&f[36..64]).time);
+        frames.sort_by_key(|f| nonce_of(f).time);
         for frame in frames {
-            let time = Request::read(&frame[36..64]).time;
+            let time = nonce_of(&frame).time;
             let Some(edge) = time.checked_add(5_000) else { continue };
             if edge >= self.drive.mark && edge < self.ceiling {
                 self.put(edge, frame.clone());

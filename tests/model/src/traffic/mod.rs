@@ -2,13 +2,14 @@
 //!
 //! A call starts as a draft that no row refuses; then it is spoiled for none, one, two or more rows, signed, and put to the model.
 //! Around that stand short stories: full memories, full partitions, gaps on and off the steps of change 3, keys set and set back, late
-//! frames, recreated objects, heads under one holder number, operation tables loaded and put back, the first and the last milliseconds.
-//! Some lives of a library start from a record that no list of calls makes, or come to one. Beside the drive a [`Ledger`] is kept, and
-//! every call is held to demand 3.
+//! frames, recreated objects, heads under one holder number, operation tables loaded and put back, groups whose lists and members change,
+//! the first and the last milliseconds. Some lives of a library start from a record that no list of calls makes, or come to one. Beside the
+//! drive a [`Ledger`] is kept, and every call is held to demand 3.
 //!
 //! An entry is a frame's *twin* when it is in the frame's memory and is its nonce in all but the object.
 
 use crate::drive::*;
+use crate::frame::{Frame, LEAST_FRAME};
 use crate::gate::gate_with_rows;
 use crate::ledger::Ledger;
 use crate::records::*;
@@ -20,17 +21,26 @@ pub use outside::{Breach, BREACHES};
 use placing::Placing;
 use std::mem::replace;
 pub use tally::Tally;
+use through::Through;
+use trail::Trail;
 
 mod asked;
 mod drafts;
 mod episodes;
+mod groups;
 mod heads;
+mod histories;
+mod lists;
 mod outside;
 mod placing;
+mod readings;
 mod spoil;
+mod stacks;
 mod steps;
 mod tables;
 mod tally;
+mod through;
+mod trail;
 
 /// Bytes after the medium that a test may lend too much of, and that nobody may write.
 pub const GUARD: usize = 8;
@@ -53,7 +63,18 @@ pub struct Done<'a> {
     pub twins: &'a [u32], // the objects of the frame's twins, as the memory was when the rows were judged
     pub placing: Option<&'a Placing>,
     pub asked: Option<&'a Asked>,
+    pub through: Option<&'a Through>,
     pub sound: bool, // the drive record, before the call
+}
+
+/// What a call left behind, before it is looked at.
+struct Answer<'a> {
+    call: &'a Call,
+    rows: &'a [u8],
+    length: usize,
+    space: &'a [u8],
+    through: Option<&'a Through>,
+    sound: bool,
 }
 
 /// An object that was put into the drive record from outside, behind those of its partition.
@@ -134,6 +155,7 @@ pub struct Traffic<'a> {
     old_keys: Vec<Key>,
     lent_keys: [Key; 2],             // drive and master key as a refused format was lent them
     since: [Since; 4],               // of each partition's table: where it is from, and what came after
+    trail: Trail,                    // of objects and groups
     objects_from_outside: bool,
     needs_from_outside: bool,        // lines of operation tables
     breach: Option<(Breach, usize)>, // what makes the record unsound in the end, and how many calls find it so
@@ -172,6 +194,7 @@ impl<'a> Traffic<'a> {
             old_keys: vec![[0; 32], [1; 32]],
             lent_keys: [[0; 32]; 2],
             since: Default::default(),
+            trail: Trail::default(),
             objects_from_outside: false,
             needs_from_outside: false,
             breach: None,
@@ -199,10 +222,13 @@ impl<'a> Traffic<'a> {
         let call = Call { clock, frame, lent, space, fill };
         let mut reply = vec![fill; space];
         let before = self.drive.clone();
+        let sound = before.sound();
+        let through = if sound { Through::of(&before, &self.medium, &self.trail, &call.frame, clock) } else { None };
         let (rows, length) =
             gate_with_rows(&mut self.drive, &mut self.medium[..lent], &call.frame, clock, &mut reply);
         let row = rows.first().copied().unwrap_or(0);
-        self.tell(&call, &before, &rows, length, &reply);
+        let through = through.filter(|_| row != 1).map(|through| through.answered(&rows));
+        self.tell(&before, &Answer { call: &call, rows: &rows, length, space: &reply, through: through.as_ref(), sound });
         if row == 1 {
             assert_eq!(self.drive, before);
         } else if let Some(ledger) = &mut self.ledger {
@@ -216,7 +242,8 @@ impl<'a> Traffic<'a> {
     }
 
     /// Tells the sink of a call to this drive.
-    fn tell(&mut self, call: &Call, before: &Drive, rows: &[u8], length: usize, space: &[u8]) {
+    fn tell(&mut self, before: &Drive, answer: &Answer) {
+        let Answer { call, rows, length, space, through, sound } = *answer;
         let row = rows.first().copied().unwrap_or(0);
         let twins = twins(&self.drive, &call.frame);
         let placing = Placing::of(before, &call.frame, row);
@@ -231,9 +258,11 @@ impl<'a> Traffic<'a> {
             twins: &twins,
             placing: placing.as_ref(),
             asked: asked.as_ref(),
-            sound: before.sound(),
+            through,
+            sound,
         });
         Since::follow(&mut self.since, before, &call.frame, row);
+        self.trail.follow(&call.frame, row);
     }
 
     /// The gaps of a partition.
@@ -248,8 +277,7 @@ impl<'a> Traffic<'a> {
 
     /// Keeps what later calls may try again: frames, versions and keys gone by.
     fn remember(&mut self, before: &Drive, frame: Vec<u8>) {
-        let c = Credential::read(&frame[..36]);
-        let r = Request::read(&frame[36..64]);
+        let Frame { c, r, .. } = Frame::read(&frame).unwrap();
         if r.operation == RAISE || r.operation == DELETE {
             self.past.push((c.partition, c.object, c.version));
         }
@@ -278,7 +306,7 @@ impl<'a> Traffic<'a> {
         if !self.library {
             return (self.drive.size, 65_536, 0);
         }
-        let asked = if frame.len() < 96 { 8 } else { Request::read(&frame[36..64]).reply_length() };
+        let asked = Frame::read(frame).map_or(8, |f| f.r.reply_length());
         let needed = if asked > 20_000 && self.rng.chance(97) { 48 } else { asked.min(70_000) as usize };
         let short = replace(&mut self.short, false);
         let space = if short {
@@ -330,7 +358,8 @@ impl<'a> Traffic<'a> {
         let mut draft = self.draft(mark, wants);
         let mut order = wants.to_vec();
         self.rng.shuffle(&mut order);
-        order.sort_by_key(|row| *row == 12); // last: other rows change slot and object, and the nonce has them
+        // Another group has another version, and a smaller member; other rows change slot and object, and the nonce has them.
+        order.sort_by_key(|row| (*row == 12, !(32..=34).contains(row)));
         for row in order {
             self.spoil(&mut draft, row, mark);
         }
@@ -393,12 +422,13 @@ impl<'a> Traffic<'a> {
 
 /// The nonce of a frame that has one.
 fn nonce_of(frame: &[u8]) -> Nonce {
-    Nonce::of(&Credential::read(&frame[..36]), &Request::read(&frame[36..64]))
+    let Frame { c, r, .. } = Frame::read(frame).unwrap();
+    Nonce::of(&c, &r)
 }
 
 /// The objects of a frame's twins in the drive that a call returned. Its own entry, if it was granted, is not among them.
 fn twins(drive: &Drive, frame: &[u8]) -> Vec<u32> {
-    if frame.len() < 96 {
+    if frame.len() < LEAST_FRAME {
         return vec![];
     }
     let nonce = nonce_of(frame);
@@ -421,15 +451,17 @@ mod tests {
         let mut tally = Tally::default();
         let mut sink = |done: &Done| tally.count(done);
         Traffic::new(Rng::new(5), drive, medium, false, 16_000, &mut sink).run();
-        for row in (0..=22).filter(|r| *r != 1 && *r != 21).chain([31]) {
+        for row in (0..=22).filter(|r| *r != 1 && *r != 21).chain(31..=34) {
             assert!(tally.rows[row] > 0, "row {row} is not met");
         }
         assert!(tally.beside_a_twin.iter().all(|n| *n > 0), "{BESIDE_A_TWIN:?}: {:?}", tally.beside_a_twin);
         assert!(tally.steps.iter().all(|n| *n > 0), "{STEPS:?}: {:?}", tally.steps);
-        for (names, counts) in tally.of_tables() {
+        for (names, counts) in tally.of_tables().into_iter().chain(tally.of_groups()).chain(tally.often()) {
             assert!(counts.iter().all(|n| *n > 0), "{names:?}: {counts:?}");
         }
+        assert!(tally.readings.iter().all(|n| *n > 0), "{:?}", tally.readings);
         assert_eq!((tally.steps_of_a_library, tally.needs_of_a_library, tally.unsound), ([0; 2], [0; 9], 0));
+        assert_eq!((tally.forms_of_a_library, tally.by_bit_7), ([0; 4], 0));
         assert_eq!(tally.rows.iter().sum::<u64>(), 16_000);
     }
 
@@ -445,7 +477,7 @@ mod tests {
             assert!(done.space[done.length..].iter().all(|b| *b == done.call.fill));
         };
         Traffic::new(Rng::new(6), drive, medium, true, 3_000, &mut sink).run();
-        for row in [0, 1, 21, 23, 31] {
+        for row in [0, 1, 21, 23, 31, 32] {
             assert!(tally.rows[row] > 0, "row {row} is not met");
         }
         assert!(tally.beside_a_twin.iter().all(|n| *n > 0), "{BESIDE_A_TWIN:?}: {:?}", tally.beside_a_twin);

@@ -5,7 +5,7 @@
 use super::asked::Since;
 use super::{Put, PutNeed, Taste, Traffic};
 use crate::drive::*;
-use crate::records::SET_KEY;
+use crate::records::{GROUP_BIT, LOOK, READ, SET_KEY};
 use crate::table::*;
 
 /// Which clause an object breaks: "with different numbers from 1, nonempty disjoint areas inside its quarter and no version over the
@@ -110,8 +110,8 @@ impl<'a> Traffic<'a> {
         }
     }
 
-    /// A new object with this area, and a last version given that is not under the partition's.
-    fn put_sound_object(&mut self, p: u8, start: u32, size: u32) {
+    /// A new object with this area, which number it has, and a last version given that is not under the partition's.
+    pub(super) fn put_sound_object(&mut self, p: u8, start: u32, size: u32) -> u32 {
         let number = self.new_number(p);
         let partition = &self.drive.partitions[p as usize];
         let (version, last) = (partition.version, partition.last_given);
@@ -125,10 +125,11 @@ impl<'a> Traffic<'a> {
         let version = self.rng.pick(&[last_given, last_given, last, version, 0]);
         self.put_object(p, Object { number, version, start, size }, last_given);
         assert!(self.drive.sound());
+        number
     }
 
     /// Some free bytes, mostly not from a multiple of 16 on.
-    fn area_off_a_step(&mut self, p: u8) -> Option<(u32, u32)> {
+    pub(super) fn area_off_a_step(&mut self, p: u8) -> Option<(u32, u32)> {
         let mut area = self.free_area(p)?;
         for _ in 0..6 {
             if area.0 % STEP == 0 && self.rng.chance(95) {
@@ -158,6 +159,7 @@ impl<'a> Traffic<'a> {
         let partition = &mut self.drive.partitions[p as usize];
         partition.objects.push(object.clone());
         partition.last_given = last_given;
+        self.trail.put(p, object.number);
         self.sink.object(&Put { partition: p, object: &object, last_given, medium: &self.medium });
         self.ledger = self.ledger.take().filter(|_| self.drive.sound());
         if let Some(ledger) = &mut self.ledger {
@@ -169,11 +171,17 @@ impl<'a> Traffic<'a> {
     pub(super) fn more_needs(&mut self, p: u8) {
         self.ready(p);
         self.an_object(p);
+        if self.rng.chance(70) {
+            self.a_group(p);
+        }
         for _ in 0..1 + self.rng.below(3) {
-            let op = self.rng.pick(&[1, 2, 3, 4, 5, 6, SET_KEY, SET_KEY]);
+            let op = self.rng.pick(&[1, 1, 2, 3, 3, 4, 5, 6, SET_KEY, SET_KEY]);
             let need = self.odd_need(op);
             self.put_need(p, op, need);
             self.calls_on_a_line(p, op);
+        }
+        if self.rng.chance(40) {
+            self.bit_7_in_a_line(p);
         }
         self.taste.places = vec![p, p, p, 4];
         for _ in 0..self.rng.below(12) {
@@ -189,6 +197,14 @@ impl<'a> Traffic<'a> {
         }
     }
 
+    /// A line whose mask has the bit that group credentials have.
+    fn bit_7_in_a_line(&mut self, p: u8) {
+        let (op, bit) = (self.rng.pick(&[READ, LOOK]), GROUP_BIT as u32);
+        let mask = self.rng.pick(&[bit, bit | document_01(op).unwrap().mask]);
+        self.put_need(p, op, Need { mask, level: 0 });
+        self.groups_on_a_line(p, op);
+    }
+
     /// Calls of an operation with all that a frame can have, with no right, at the lowest level, and at the line's edges.
     fn calls_on_a_line(&mut self, p: u8, op: u8) {
         for (rights, level) in self.shuffled(&[(0x7f, 2), (0x7f, 0), (0, 2), (0, 0)]) {
@@ -201,6 +217,7 @@ impl<'a> Traffic<'a> {
             self.try_the_table(p, op);
             self.against_document_01(p);
         }
+        self.groups_on_a_line(p, op);
     }
 
     /// A line that is not good in the mask, in the level or in both.
@@ -215,10 +232,10 @@ impl<'a> Traffic<'a> {
         }
     }
 
-    /// No right, or a bit that no credential has, alone or beside the operation's own right.
+    /// No right, or a bit that no credential has, or only a group's, alone or beside the operation's own right.
     fn odd_mask(&mut self, own: u32) -> u32 {
         let (bit, any) = (1 << (7 + self.rng.below(25)), self.rng.next() as u32 | 1 << 7);
-        self.rng.pick(&[0, 0, 1 << 7, own | 1 << 7, bit, own | bit, u32::MAX, any])
+        self.rng.pick(&[0, 0, 1 << 7, own | 1 << 7, bit, own | bit, own | bit, u32::MAX, any])
     }
 
     /// Over 2, often with a last byte that is not, or for operation 7 under 1.
@@ -342,9 +359,11 @@ mod tests {
         let mut told = Told::default();
         traffic(&mut told, 8, 4_002, 6_000).with_objects().run();
         let off = told.starts.iter().filter(|start| *start % STEP != 0).count();
-        assert!(off > 20 && off * 10 > told.starts.len() * 9, "{off} of {}", told.starts.len());
+        assert!(off > 20 && off * 10 > told.starts.len() * 8, "{off} of {}", told.starts.len());
         let tally = told.tally;
         assert!(tally.steps.iter().chain(&tally.steps_of_a_library).all(|n| *n > 0), "{:?} {:?}", tally.steps, tally.steps_of_a_library);
+        assert!(tally.forms_of_a_library.iter().all(|n| *n > 0), "{:?}", tally.forms_of_a_library);
+        assert!(tally.rows[32..].iter().all(|n| *n > 0), "{:?}", tally.rows);
         assert_eq!((tally.unsound, tally.rows.iter().sum::<u64>()), (0, 6_000));
     }
 
@@ -356,7 +375,7 @@ mod tests {
         let bad = told.needs.iter().filter(|(operation, need)| !need.good(*operation)).count();
         assert!(bad > 20, "{bad} of {}", told.needs.len());
         let of_a_record = &told.tally.needs_of_a_library[..7];
-        assert!(of_a_record.iter().all(|n| *n > 0), "{of_a_record:?}");
+        assert!(of_a_record.iter().all(|n| *n > 0) && told.tally.by_bit_7 > 0, "{of_a_record:?} {}", told.tally.by_bit_7);
         assert_eq!((told.tally.rows[0] > 1_500, told.tally.rows.iter().sum::<u64>()), (true, 6_000));
     }
 

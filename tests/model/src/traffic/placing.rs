@@ -1,6 +1,7 @@
 //! What creates meet of change 3, so that the tests can ask for it.
 
 use crate::drive::*;
+use crate::frame::Frame;
 use crate::records::*;
 
 /// What is counted of creates that come to the placing rule, in the order of [`Placing::met`].
@@ -32,13 +33,7 @@ pub struct Placing {
 impl Placing {
     /// Of a call put to this drive, if it is one.
     pub fn of(before: &Drive, frame: &[u8], row: u8) -> Option<Placing> {
-        if frame.len() < 96 || (row != 0 && row != 20) {
-            return None;
-        }
-        let (c, r) = (Credential::read(&frame[..36]), Request::read(&frame[36..64]));
-        if r.operation != CREATE {
-            return None;
-        }
+        let Frame { c, r, .. } = Frame::read(frame).filter(|f| f.r.operation == CREATE && (row == 0 || row == 20))?;
         let p = c.partition as usize;
         let areas = areas(&before.partitions[p].objects);
         Some(Placing { ahead: before.place(p, 0) as u32, gaps: gaps(before.quarter(), &areas), areas, b: r.b })

@@ -28,7 +28,7 @@ impl Traffic<'_> {
             4 => match any % 11 {
                 0 => d.c.partition = self.rng.pick(&[4, 5, 8, 128, 255]),
                 1 => d.c.slot = self.rng.pick(&[5, 6, 8, 128, 255]),
-                2 => d.c.rights |= 1 << (7 + self.rng.below(9)),
+                2 => d.c.rights |= 1 << (8 + self.rng.below(8)),
                 3 => d.c.least = self.rng.pick(&[3, 4, 255]),
                 4 => d.c.zero = self.rng.pick(&[1, 128, 255]),
                 5 => (d.c.slot, d.c.partition) = (3, 1 + self.rng.below(3) as u8),
@@ -38,6 +38,7 @@ impl Traffic<'_> {
                 9 => d.r.n = self.rng.pick(&[1_048_577, 0x0100_0000, u32::MAX]),
                 _ => d.r.n = d.r.n.wrapping_add(0x0100_0000),
             },
+            5 if any >> 8 & 7 == 0 || (d.r.is_of_a_group() && any >> 8 & 1 == 0) => self.resize_for_a_form(d),
             5 => match any % 8 {
                 0 => d.cut = 1, // may fall under 96: then it is row 2
                 1 => d.add = 1 + self.rng.below(40) as usize,
@@ -56,6 +57,7 @@ impl Traffic<'_> {
                     d.r.n = d.data.len() as u32;
                 }
             },
+            6 if d.is_through_a_group() || any >> 8 & 7 == 0 => self.misfit_of_a_form(d),
             6 => {
                 let high = 1 << self.rng.below(32);
                 match (op, any % 4) {
@@ -170,7 +172,8 @@ impl Traffic<'_> {
                 let present = partition.present_version(d.c.object);
                 let old = self.past.iter().rev().find(|(p, o, _)| *p == d.c.partition && *o == d.c.object);
                 let old = old.map_or(0, |(_, _, v)| *v);
-                let other = self.rng.pick(&[partition.version, partition.last_given, old]);
+                let members = partition.find(d.target()).map_or(0, |o| o.version);
+                let other = self.rng.pick(&[partition.version, partition.last_given, old, members]);
                 for _ in 0..12 {
                     let v = self.rng.pick(&[
                         old,
@@ -198,7 +201,7 @@ impl Traffic<'_> {
                 }
             }
             17 => {
-                let size = partition.find(d.c.object).map_or(0, |o| o.size);
+                let size = partition.find(d.target()).map_or(0, |o| o.size);
                 if !(d.c.first == u32::MAX || d.c.end == 0) {
                     (d.c.first, d.c.end) = (0, u32::MAX);
                 }
@@ -220,6 +223,9 @@ impl Traffic<'_> {
                 }
             }
             31 => self.spoil_a_table(d),
+            32 => self.spoil_a_group(d),
+            33 => self.spoil_a_member(d),
+            34 => self.lose_a_member(d),
             _ => {} // 19, 21, 22: by the state; 23: by the space
         }
     }

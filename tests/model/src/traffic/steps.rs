@@ -31,7 +31,7 @@ impl Traffic<'_> {
         }
     }
 
-    fn let_one_go(&mut self, p: u8) {
+    pub(super) fn let_one_go(&mut self, p: u8) {
         let objects = self.drive.partitions[p as usize].objects.clone();
         if !objects.is_empty() {
             let number = self.rng.pick(&objects).number;

@@ -377,7 +377,7 @@ impl Traffic<'_> {
     }
 
     /// A good line, often at an edge.
-    fn some_need(&mut self, op: u8) -> Need {
+    pub(super) fn some_need(&mut self, op: u8) -> Need {
         let own = document_01(op).unwrap().mask;
         let other = 1 << self.rng.below(7);
         let any = 1 + self.rng.below(ALL_RIGHTS as u64) as u32;

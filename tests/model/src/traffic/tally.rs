@@ -1,14 +1,19 @@
 //! What random calls met, counted.
 
 use super::asked::*;
+use super::histories::*;
 use super::placing::{STEPS, STEPS_OF_A_LIBRARY};
+use super::readings::READINGS;
+use super::through::*;
 use super::{nonce_of, Done};
+use crate::records::GROUP_BIT;
+use std::fmt::Display;
 
-/// Rows 0 to 31; some of them are no answer of gate or format.
-const ROWS: usize = 32;
+/// Rows 0 to 34; some of them are no answer of gate or format.
+const ROWS: usize = 35;
 
 /// How often each row was the answer, how often another row applied beside it, how often the frame had a twin, and what calls met of
-/// changes 3 and 5.
+/// changes 3, 5 and 6.
 pub struct Tally {
     pub rows: [u64; ROWS],
     pub pairs: [[u64; ROWS]; ROWS],
@@ -22,12 +27,25 @@ pub struct Tally {
     pub faulty_lines: [u64; FAULTY_LINES.len()],
     pub after: [u64; AFTER.len()],
     pub needs_of_a_library: [u64; NEEDS_OF_A_LIBRARY.len()],
+    pub grants: [u64; GRANTS.len()],
+    pub forms: [u64; FORMS.len()],
+    pub misfits: [u64; MISFITS.len()],
+    pub faults_of_lists: [u64; FAULTS_OF_LISTS.len()],
+    pub members: [u64; MEMBERS.len()],
+    pub histories: [u64; HISTORIES.len()],
+    pub forms_by_a_table: [u64; FORMS_BY_A_TABLE.len()],
+    pub readings: [u64; READINGS.len()],
+    pub forms_of_a_library: [u64; FORMS_OF_A_LIBRARY.len()],
+    pub by_bit_7: u64,
     pub unsound: u64,
 }
 
 /// What [`Tally::beside_a_twin`] counts.
 pub(super) const BESIDE_A_TWIN: [&str; 3] =
     ["grants beside a twin", "grants beside a twin, one of the two for the partition", "repeats beside a twin"];
+
+/// What [`Tally::by_bit_7`] counts.
+const BY_BIT_7: &str = "grants through a group by bit 7 of a mask that a record has";
 
 /// What [`Tally::unsound`] counts.
 const UNSOUND: &str = "calls answered row 1 by an unsound record";
@@ -47,6 +65,16 @@ impl Default for Tally {
             faulty_lines: [0; FAULTY_LINES.len()],
             after: [0; AFTER.len()],
             needs_of_a_library: [0; NEEDS_OF_A_LIBRARY.len()],
+            grants: [0; GRANTS.len()],
+            forms: [0; FORMS.len()],
+            misfits: [0; MISFITS.len()],
+            faults_of_lists: [0; FAULTS_OF_LISTS.len()],
+            members: [0; MEMBERS.len()],
+            histories: [0; HISTORIES.len()],
+            forms_by_a_table: [0; FORMS_BY_A_TABLE.len()],
+            readings: [0; READINGS.len()],
+            forms_of_a_library: [0; FORMS_OF_A_LIBRARY.len()],
+            by_bit_7: 0,
             unsound: 0,
         }
     }
@@ -58,7 +86,12 @@ fn add<const N: usize>(counts: &mut [u64; N], met: [bool; N]) {
     }
 }
 
-fn print_met(names: &[&str], counts: &[u64]) {
+/// The names of [`READINGS`].
+fn readings() -> Vec<String> {
+    READINGS.iter().map(|reading| format!("calls answered otherwise if {}", reading.what)).collect()
+}
+
+fn print_met(names: &[impl Display], counts: &[u64]) {
     for (what, n) in names.iter().zip(counts) {
         println!("met {what}: {n}");
     }
@@ -84,7 +117,27 @@ impl Tally {
         if let Some(near) = near_load(&done.call.frame, done.row) {
             self.near_loads[near] += 1;
         }
+        if let Some(through) = done.through {
+            self.count_groups(through, done.asked);
+        }
         self.unsound += (done.row == 1 && !done.sound) as u64;
+    }
+
+    fn count_groups(&mut self, through: &Through, asked: Option<&Asked>) {
+        add(&mut self.grants, through.granted());
+        add(&mut self.forms, through.met());
+        add(&mut self.misfits, through.met_by_its_form());
+        add(&mut self.faults_of_lists, through.met_by_a_list());
+        add(&mut self.members, through.met_by_a_member());
+        add(&mut self.histories, through.met_after());
+        add(&mut self.readings, through.told_apart());
+        add(&mut self.forms_of_a_library, through.met_in_a_library());
+        if let Some(asked) = asked.filter(|_| through.is_through_a_group()) {
+            let (row, decided) = (through.row(), asked.decided_by_a_load());
+            add(&mut self.forms_by_a_table, [(row == 7 || row == 13) && decided, row == 0 && decided]);
+            let bit_7 = asked.by_the_table().is_some_and(|need| need.mask & GROUP_BIT as u32 != 0);
+            self.by_bit_7 += (row == 0 && bit_7) as u64;
+        }
     }
 
     fn count_needs(&mut self, asked: &Asked) {
@@ -110,6 +163,22 @@ impl Tally {
         ]
     }
 
+    /// What is counted of change 6 in every run: names and numbers.
+    pub(super) fn of_groups(&self) -> [(&[&str], &[u64]); 5] {
+        [
+            (&FORMS, &self.forms),
+            (&MISFITS, &self.misfits),
+            (&MEMBERS, &self.members),
+            (&HISTORIES, &self.histories),
+            (&FORMS_BY_A_TABLE, &self.forms_by_a_table),
+        ]
+    }
+
+    /// What each run of the tests has to meet often: the new forms, and each kind of broken list.
+    pub(super) fn often(&self) -> [(&[&str], &[u64]); 2] {
+        [(&GRANTS, &self.grants), (&FAULTS_OF_LISTS, &self.faults_of_lists)]
+    }
+
     /// Lines `row R: N`; then lines `met WHAT: N` of what the differential tests ask for (`tests/model/met`); then beside which other
     /// rows each row was the answer, so that the lowest had to win.
     pub fn print(&self) {
@@ -118,9 +187,13 @@ impl Tally {
         }
         print_met(&BESIDE_A_TWIN, &self.beside_a_twin);
         print_met(&STEPS, &self.steps);
-        for (names, counts) in self.of_tables() {
+        for (names, counts) in self.of_tables().into_iter().chain(self.of_groups()) {
             print_met(names, counts);
         }
+        for (names, counts) in self.often() {
+            print_met(&names.iter().map(|name| format!("often {name}")).collect::<Vec<String>>(), counts);
+        }
+        print_met(&readings(), &self.readings);
         let met = self.pairs.iter().flatten().filter(|n| **n > 0).count();
         println!("pairs of an answer and another row that applied: {met}");
         for (first, line) in self.pairs.iter().enumerate() {
@@ -136,6 +209,8 @@ impl Tally {
     pub fn print_of_a_library(&self) {
         print_met(&STEPS_OF_A_LIBRARY, &self.steps_of_a_library);
         print_met(&NEEDS_OF_A_LIBRARY, &self.needs_of_a_library);
+        print_met(&FORMS_OF_A_LIBRARY, &self.forms_of_a_library);
+        print_met(&[BY_BIT_7], &[self.by_bit_7]);
         print_met(&[UNSOUND], &[self.unsound]);
     }
 }

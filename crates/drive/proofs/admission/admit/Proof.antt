@@ -12,7 +12,7 @@ use Rattle.rules.specs.Rows.{lowLevel}
 use Rattle.wire.specs.Parse.{numbersOf}
 use Rattle.state.specs.Table.{needsIn}
 use Rattle.drive.specs.Admission.{AdmitRequires, ServeRequires}
-use Rattle.drive.proofs.Frames.{long}
+use Rattle.drive.proofs.Frames.{starts-hold}
 use Rattle.drive.proofs.Admitting.{level-is, seven, refusal-given}
 use borrow.Author.Needs.{needs}
 use Rattle.drive.proofs.admission.admit.Statement.{statement}
@@ -23,7 +23,7 @@ abbrev at-start : tie.After-low-level → tie.Start
 at-start t = t .before .before .before .before .before .before .before .before
 
 abbrev at-level : tie.After-loads-bad-table → tie.After-low-level
-at-level t = t .before .before
+at-level t = t .before .before .before
 
 -- what was asked, of the entries l
 abbrev Given : tie.Start → List Entry → Type 0
@@ -55,7 +55,7 @@ serving t l w =
       admits = w;
       numbers = e .before .before .numbers .ensures;
       needed = e .before .need-under .ensures;
-      level = sym (e .low-level .ensures) ∙ t .before .if1 .left;
+      level = sym (e .low-level .ensures) ∙ t .before .before .if1 .left;
       load = t .loads-bad-table .ensures;
     }
 
@@ -67,7 +67,7 @@ returns c l w =
     (seven w (a .reply .now) (level-is w ∙ sym (judged t) ∙ c .before .if1 .taken)) (λ z. omega arith) (c .refusal .ensures)
 
 loads-bad-table-requires : tie.Need-loads-bad-table-requires
-loads-bad-table-requires c κs = long (at-start (c .before) .pre .1 .parsed)
+loads-bad-table-requires c κs = starts-hold (at-start (c .before .before) .pre .1 .parsed)
 
 serve-requires : tie.Need-serve-requires
 serve-requires c κs =

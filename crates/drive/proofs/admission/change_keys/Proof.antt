@@ -10,14 +10,13 @@ use Rattle.drive.proofs.admission.change_keys.Tie as tie
 
 returns : tie.Need-returns
 returns c =
-    let a = c .before .before .before .before .before .before .before .before .args in
-    let long = c .before .before .before .before .before .before .before .before .pre in
+    let start = c .before .before .before .before .before .before .before .before .before in
+    let a = start .args in
     c .before .before .apply .ensures
-    ∙ ap (λ (y : List ℕ). keysAfter (a .request .operation) (a .j) (a .c .slot) (a .c .partition) y (a .keys .now)) (request-and-data (a .frame .now) long)
+    ∙ ap (λ (y : List ℕ). keysAfter (a .request .operation) (a .j) (a .c .slot) (a .c .partition) y (a .keys .now)) (request-and-data (start .pre))
 
 pub change-keys-spec : {M : Type 1} → statement M
 change-keys-spec =
     tie.close
     (tie.spec
-    (λ c. search needs) (λ c. search needs) (λ c. search needs) (λ c. search needs) (λ c. search needs) (λ c κs. search needs)
-    (λ c. search needs) returns)
+    (λ c. search needs) (λ c. search needs) (λ c. search needs) (λ c. search needs) (λ c κs. search needs) (λ c. search needs) returns)

@@ -13,15 +13,14 @@ use Rattle.drive.proofs.admission.change_table.Tie as tie
 returns : tie.Need-returns
 returns c =
     let p = c .before .before in
-    let start = p .before .before .before .before .before in
+    let start = p .before .before .before .before .before .before in
     let a = start .args in
     subst (λ (y : List ℕ). ChangedTo (a .table .now) (p .apply .last .0)
     (contentAfter (a .request .operation) (a .c .object) (a .out .nextversion) (a .out .newstart) (needsAt y) (a .table .now)))
-    (the-payload (a .frame .now) (start .pre)) (p .apply .ensures)
+    (the-payload (start .pre)) (p .apply .ensures)
 
 pub change-table-spec : {M : Type 1} → statement M
 change-table-spec =
     tie.close
     (tie.spec
-    (λ c. search needs) (λ c. search needs) (λ c. search needs) (λ c. search needs) (λ c κs. search needs) (λ c. search needs)
-    returns)
+    (λ c. search needs) (λ c. search needs) (λ c. search needs) (λ c κs. search needs) (λ c. search needs) returns)

@@ -21,7 +21,7 @@ returns c =
     let t = at-replied u in
     let a = at-start t .args in (
       u .update-medium .ensures ∙ ap (λ (y : List ℕ). mediumAfter (a .o) (a .context) y (a .medium .now))
-          (the-payload (a .frame .now) (at-start t .pre)),
+          (the-payload (at-start t .pre)),
       t .put-reply .ensures,
     )
 
@@ -29,5 +29,4 @@ pub grant-spec : {M : Type 1} → statement M
 grant-spec =
     tie.close
     (tie.spec
-    (λ c. search needs) (λ c κs. search needs) (λ c. search needs) (λ c. search needs) (λ c. search needs) (λ c κs. search needs) (λ c. search needs)
-    (λ c. search needs) returns)
+    (λ c κs. search needs) (λ c. search needs) (λ c. search needs) (λ c. search needs) (λ c κs. search needs) (λ c. search needs) (λ c. search needs) returns)

@@ -9,14 +9,13 @@ use Rattle.drive.proofs.admission.is_signed.Tie as tie
 returns : tie.Need-returns
 returns c =
     λ k h.
-    let a = c .before .before .before .before .before .before .args in
-    let f = a .frame .now in
+    let s = c .before .before .before .before .before .before in
+    let f = s .args .frame .now in
     let right = c .before .before .before .frame-digest .ensures k (fields f .credential) (fields f .request) h in
-    rw (c .same .ensures, the-digest f (c .before .before .before .before .before .before .pre), right, the-payload f (c .before .before .before .before .before .before .pre))
+    rw (c .same .ensures, the-digest (s .pre), right, the-payload (s .pre))
 
 pub is-signed-spec : {M : Type 1} → statement M
 is-signed-spec =
     tie.close
     (tie.spec
-    (λ c. search needs) (λ c. search needs) (λ c. search needs) (λ c. search needs) (λ c κs. search needs)
-    (λ c. search needs) (λ c. search needs) (λ c. search needs) (λ c. search needs) (λ c κs. search needs) returns)
+    (λ c. search needs) (λ c. search needs) (λ c. search needs) (λ c κs. search needs) (λ c. search needs) (λ c. search needs) (λ c. search needs) (λ c. search needs) (λ c κs. search needs) returns)

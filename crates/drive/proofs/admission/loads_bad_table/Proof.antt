@@ -9,10 +9,10 @@ use Rattle.drive.proofs.admission.loads_bad_table.Tie as tie
 returns : tie.Need-returns
 returns c =
     let start = c .before .before .before in
-    c .is-bad-load .ensures ∙ ap (row31 (start .args .r)) (the-payload (start .args .frame .now) (start .pre))
+    c .is-bad-load .ensures ∙ ap (row31 (start .args .r)) (the-payload (start .pre))
 
 pub loads-bad-table-spec : {M : Type 1} → statement M
 loads-bad-table-spec =
     tie.close
     (tie.spec
-    (λ c. search needs) (λ c. search needs) (λ c. search needs) (λ c. search needs) (λ c κs. search needs) returns)
+    (λ c. search needs) (λ c. search needs) (λ c. search needs) (λ c κs. search needs) returns)

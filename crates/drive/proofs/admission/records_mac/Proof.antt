@@ -15,16 +15,22 @@ use Rattle.drive.proofs.admission.records_mac.Statement.{statement}
 use Rattle.drive.proofs.admission.records_mac.Tie as tie
 
 slice-aggregate-of : tie.Need-slice-aggregate-of
-slice-aggregate-of c = let a = c .before .before .before .args in sym (length-take-le 36 (a .frame .now) (omega arith))
+slice-aggregate-of c =
+    let s = c .before .before .before in
+    let w = s .pre in
+    sym (length-take-le (s .args .starts .request) (s .args .frame .now) (omega (arith, w .request, w .payload, w .long)))
 
 slice-aggregate-absorb : tie.Need-slice-aggregate-absorb
-slice-aggregate-absorb c = let a = c .before .before .before .before .before .before .before .args in sym (length-take-le 64 (a .frame .now) (omega arith))
+slice-aggregate-absorb c =
+    let s = c .before .before .before .before .before .before .before in
+    let w = s .pre in
+    sym (length-take-le (s .args .starts .payload) (s .args .frame .now) (omega (arith, w .payload, w .long)))
 
 returns : tie.Need-returns
 returns c =
     let a = c .before .before .before .before .before .before .before .before .args in
-    let k : List ℕ = hmac (a .key .now) (take 36 (a .frame .now)) in
-    let p : List ℕ = take 64 (a .frame .now) in
+    let k : List ℕ = hmac (a .key .now) (take (a .starts .request) (a .frame .now)) in
+    let p : List ℕ = take (a .starts .payload) (a .frame .now) in
     let e : c .absorb .result ≡ macAbsorbed (macStarted k) p =
     c .absorb .ensures
     ∙ ap (λ (h : Mac). macAbsorbed h p) (c .before .before .start .ensures ∙ ap macStarted (c .before .before .before .before .of .ensures)) in

@@ -14,23 +14,27 @@ use Rattle.digest.specs.Hmac.{hmac}
 use Rattle.digest.specs.Keyed.{Keyed}
 use Rattle.rules.specs.declared.Entry.{Entry}
 use Rattle.rules.specs.declared.Request.{Request}
-use Rattle.rules.specs.Frame.{credentialSize, dataStart, fields, covered, keySize}
+use Rattle.rules.specs.Frame.{fields, covered, keySize, targetOf}
 use Rattle.rules.specs.Operations.{keyIn, credentialKey}
-use Rattle.rules.specs.Rows.{scopeRows, driveRows}
+use Rattle.rules.specs.Rows.{groupBytes, scopeRows, driveRows}
 use Rattle.keyring.specs.Keys.{keyCount, keysSize, keysIn, isSet, keyIndex}
 use Rattle.keyring.specs.KeyLaws.{set-there, key-in-set, key-in-unset}
+use Rattle.judge.specs.Judge.{listRow}
 use Rattle.placing.specs.Placing.{placeOption}
+use Rattle.state.specs.Table.{lookupIn, objectsIn}
 use Rattle.drive.specs.Admission.{scopeFrom, ServeRequires}
-use Rattle.drive.proofs.Frames.{long, in-four, the-credential, both-records}
+use Rattle.drive.proofs.Frames.{starts-hold, in-four, the-credential, both-records}
 use Rattle.drive.proofs.Admitting.{
   Prepared,
   high,
   eight,
+  foundStart,
   nine,
   from10,
   credential-key,
   refusal-given,
   granted-given,
+  inside-medium,
   judge-facts,
   secret-is,
 }
@@ -46,7 +50,7 @@ abbrev at-start : tie.After-is-set → tie.Start
 at-start t = at-key t .before .before .before .before .before .before .before
 
 abbrev at-set : tie.After-records-mac → tie.Else1
-at-set t = t .before .before
+at-set t = t .before .before .before
 
 abbrev at-hash : tie.Else2 → tie.After-records-mac
 at-hash t = t .before .before
@@ -60,8 +64,14 @@ at-result t = at-whole t .before
 abbrev at-signed : tie.After-look-up → tie.Else2
 at-signed t = at-result t .before
 
+abbrev at-listed : tie.After-judge → tie.After-group-row
+at-listed t = t .before .before .before
+
+abbrev at-target : tie.After-judge → tie.After-target-in
+at-target t = at-listed t .before .before
+
 abbrev at-found : tie.After-judge → tie.After-look-up
-at-found t = t .before .before .before
+at-found t = at-target t .before
 
 abbrev at-context : tie.After-grant-arg2 → tie.After-grant-context
 at-context t = t .before .before
@@ -117,13 +127,15 @@ keyed-of t l w =
     let a = start1 (at-set t) .args in
     let f = a .frame .now in
     let j = at-key (at-set t .before) .key-index in
-    let key : hmac (midOf (keySize * j .result) (keySize * j .result + keySize - keySize * j .result) (a .keys .now)) (take credentialSize f)
+    let h = starts-hold (w .admits .parsed) in
+    let at = a .request .starts in
+    let key : hmac (midOf (keySize * j .result) (keySize * j .result + keySize - keySize * j .result) (a .keys .now)) (take (at .request) f)
     ≡ credentialKey (keysIn (a .keys .now)) (fields f) =
-    ap (λ (k : List ℕ). hmac k (take credentialSize f))
+    ap (λ (k : List ℕ). hmac k (take (at .request) f))
     (secret-is (a .keys .now) (j .result) (keyIndex (a .c .slot) (a .c .partition)) (j .ensures))
-    ∙ ap (hmac (secret (at-set t))) (the-credential f) ∙ credential-key (w .admits) (found-of (at-set t) l w) in
-    subst (λ (n : List ℕ). Keyed (t .records-mac .result) (credentialKey (keysIn (a .keys .now)) (fields f)) n) (both-records f)
-    (subst (λ (n : List ℕ). Keyed (t .records-mac .result) n (take dataStart f)) key (t .records-mac .ensures))
+    ∙ ap (hmac (secret (at-set t))) (the-credential h) ∙ credential-key (w .admits) (found-of (at-set t) l w) in
+    subst (λ (n : List ℕ). Keyed (t .records-mac .result) (credentialKey (keysIn (a .keys .now)) (fields f)) n) (both-records h)
+    (subst (λ (n : List ℕ). Keyed (t .records-mac .result) n (take (at .payload) f)) key (t .records-mac .ensures))
 
 -- the digest compared
 compared : (t : tie.After-is-signed) (l : List Entry) → Given (start1 (at-set (t .before))) l
@@ -135,20 +147,27 @@ compared t l w =
     t .is-signed .ensures (credentialKey (keysIn (a .keys .now)) (fields (a .frame .now))) (keyed-of (t .before) l w)
 
 -- what is worked out before the rows are judged
-prepared : (t : tie.After-judge) → let a = start3 t .args in let n = at-found t in
-    Prepared (a .facts) (a .table .now) (a .c) (a .r) (at-result n .result-length .result) (at-whole n .length-with .result) (n .look-up .result) (placeOption (t .before .placement .result))
-prepared t =
+prepared : (t : tie.After-judge) (l : List Entry) → Given (start3 t) l → let a = start3 t .args in let n = at-found t in
+    Prepared (a .facts) (a .table .now) (a .medium .now) (a .c) (a .r) (at-result n .result-length .result) (at-whole n .length-with .result)
+    (n .look-up .result) (at-listed t .group-row .result) (at-target t .target-in .result) (placeOption (t .before .placement .result))
+prepared t l w =
     let n = at-found t in
+    let a = start3 t .args in
+    let found = n .look-up .result in
     record {
       result = at-result n .result-length .ensures;
       reply = at-whole n .length-with .ensures;
       named = n .look-up .ensures;
+      list = at-listed t .group-row .ensures
+          ∙ ap (listRow (part (a .medium .now) (foundStart (a .facts) (a .c) found) (found .object .size))) (sym (w .numbers));
+      reached = at-target t .target-in .ensures (a .c) (n .look-up .ensures)
+          ∙ ap (λ (r : Request). lookupIn (objectsIn (a .table .now)) (targetOf (a .c) r)) (sym (w .numbers));
       placed = t .before .placement .ensures;
     }
 
 -- the row that the rules give is the one that was judged
 row-of : (t : tie.After-judge) (l : List Entry) → Given (start3 t) l → let a = start3 t .args in
-    firstRow (driveRows (scopeFrom (a .facts) (a .keys .now) (a .table .now) l) (fields (a .frame .now)) (a .reply .now))
+    firstRow (driveRows (scopeFrom (a .facts) (a .keys .now) (a .table .now) l) (a .medium .now) (fields (a .frame .now)) (a .reply .now))
     ≡ t .judge .result
 row-of t l w =
     let a = start3 t .args in
@@ -157,8 +176,8 @@ row-of t l w =
     let x = fields (a .frame .now) in
     from10 (w .admits) (found-of (at-set (at-hash e)) l w) (a .reply .now) (high w) (e .before .is-signed .result)
     (compared (e .before) l w) (not-false (e .before .is-signed .result) (e .if2 .left))
-    ∙ ap (λ (r : Request). firstRow (scopeRows S (a .c) r (x .payload) (length (a .reply .now)))) (sym (w .numbers))
-    ∙ sym (t .judge .ensures S (x .payload) (judge-facts w (prepared t)))
+    ∙ ap (λ (r : Request). firstRow (scopeRows S (a .c) r (x .payload) (groupBytes S (a .c) (a .medium .now)) (length (a .reply .now)))) (sym (w .numbers))
+    ∙ sym (t .judge .ensures S (x .payload) (groupBytes S (a .c) (a .medium .now)) (judge-facts w (prepared t l w)))
 
 returns : tie.Need-returns
 returns c l w =
@@ -178,13 +197,13 @@ add-to : tie.Need-add-to
 add-to c = let h = there c in search needs
 
 part-records-mac-end : tie.Need-part-records-mac-end
-part-records-mac-end c = let h = there c in omega (arith, h)
+part-records-mac-end c = let h = there (c .before) in omega (arith, h)
 
 records-mac-requires : tie.Need-records-mac-requires
-records-mac-requires c κs = let h = long (start1 (c .before) .pre .1 .admits .parsed) in omega arith
+records-mac-requires c κs = starts-hold (start1 (c .before .before) .pre .1 .admits .parsed)
 
 is-signed-requires : tie.Need-is-signed-requires
-is-signed-requires c κs = long (start1 (at-set c) .pre .1 .admits .parsed)
+is-signed-requires c κs = starts-hold (start1 (at-set c) .pre .1 .admits .parsed)
 
 returns-2 : tie.Need-returns-2
 returns-2 c l w =
@@ -195,8 +214,14 @@ returns-2 c l w =
     (not-true (t .is-signed .result) (c .before .if2 .taken)))
     (λ z. omega arith) (c .refusal2 .ensures)
 
+group-row-requires : tie.Need-group-row-requires
+group-row-requires c κs =
+    let n = c .before .before in
+    let w = start2 (at-signed n) .pre .1 .admits in
+    (w .small, in-four (w .parsed), inside-medium w (n .look-up .ensures))
+
 cast-placement : tie.Need-cast-placement
-cast-placement c = let h = start2 (at-signed (c .before)) .pre .1 .admits .small in search needs
+cast-placement c = let h = start2 (at-signed (c .before .before .before .before)) .pre .1 .admits .small in search needs
 
 returns-3 : tie.Need-returns-3
 returns-3 c l w =
@@ -208,7 +233,7 @@ grant-context-requires : tie.Need-grant-context-requires
 grant-context-requires c κs = let w = start3 (c .before) .pre .1 .admits in (w .small, in-four (w .parsed), w .table)
 
 grant-requires : tie.Need-grant-requires
-grant-requires c κs = long (start3 (at-judged c .before) .pre .1 .admits .parsed)
+grant-requires c κs = starts-hold (start3 (at-judged c .before) .pre .1 .admits .parsed)
 
 returns-4 : tie.Need-returns-4
 returns-4 c l w =
@@ -217,7 +242,7 @@ returns-4 c l w =
     let t = e .before in
     let a = start3 t .args in
     let m = at-hash (at-signed (at-found t)) in
-    granted-given w (prepared t) (a .reply .now) (row-of t l w ∙ e .if3 .left) (found-of (at-set m) l w)
+    granted-given w (prepared t l w) (a .reply .now) (row-of t l w ∙ e .if3 .left) (found-of (at-set m) l w)
     (at-key (at-set m .before) .key-index .result) (at-key (at-set m .before) .key-index .ensures)
     (at-context (g .before) .grant-context .result) (at-context (g .before) .grant-context .ensures) _ _ (g .grant .ensures .0)
     (m .records-mac .result) (keyed-of m l w) (g .grant .ensures .1)
@@ -226,7 +251,6 @@ pub serve-spec : {M : Type 1} → statement M
 serve-spec =
     tie.close
     (tie.spec
-    (λ c. search needs) (λ c κs. search needs) (λ c κs. search needs) (λ c κs. search needs) returns mul-from add-to (λ c. search needs)
-    (λ c. search needs) part-records-mac-end records-mac-requires is-signed-requires (λ c κs. search needs) returns-2 (λ c κs. search needs)
-    (λ c κs. search needs) (λ c κs. search needs) cast-placement (λ c κs. search needs) (λ c κs. search needs)
-    (λ c κs. search needs) returns-3 grant-context-requires grant-requires (λ c. search needs) (λ c. search needs) returns-4)
+    (λ c. search needs) (λ c κs. search needs) (λ c κs. search needs) (λ c κs. search needs) returns mul-from add-to (λ c. search needs) (λ c. search needs) part-records-mac-end records-mac-requires is-signed-requires (λ c κs. search needs) returns-2
+    (λ c κs. search needs) (λ c κs. search needs) (λ c κs. search needs) (λ c κs. search needs) group-row-requires cast-placement (λ c κs. search needs) (λ c κs. search needs) (λ c κs. search needs) (λ c. search needs) returns-3 grant-context-requires grant-requires
+    (λ c. search needs) (λ c. search needs) returns-4)

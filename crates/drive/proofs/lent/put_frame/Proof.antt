@@ -26,7 +26,7 @@ use Rattle.drive.specs.View.{view, tablesIn, memoriesOf, entriesFit, Mem
 use Rattle.drive.specs.Admission.{ParsedTo}
 use Rattle.drive.specs.Met.{callOf}
 use Rattle.drive.specs.Lent.{recordOf}
-use Rattle.drive.proofs.Frames.{in-four, in-five, long}
+use Rattle.drive.proofs.Frames.{in-four, in-five, starts-hold}
 use Rattle.drive.proofs.Memories.{refreshed-view, sound-view}
 use Rattle.drive.proofs.Gates.{gate-unready, gate-framed, frame-not-1, meets}
 use Rattle.drive.proofs.Scopes.{ready-row1, Opened, mem, long-part, ready, met-refused, has-room, met-granted}
@@ -309,7 +309,7 @@ returns-3 c =
     met-refused o (t .admit .ensures (mem o) (ready o)) (c .if2 .taken) _ refl refl refl
 
 change-keys-requires : tie.Need-change-keys-requires
-change-keys-requires c κs = long (opened (scope-of (at-granted c)) .parsed)
+change-keys-requires c κs = starts-hold (opened (scope-of (at-granted c)) .parsed)
 
 part-change-table-end : tie.Need-part-change-table-end
 part-change-table-end c =
@@ -319,7 +319,7 @@ part-change-table-end c =
     omega (arith, h, w)
 
 change-table-requires : tie.Need-change-table-requires
-change-table-requires c κs = long (opened (scope-of (at-granted (at-keys (c .before) .before))) .parsed)
+change-table-requires c κs = starts-hold (opened (scope-of (at-granted (at-keys (c .before) .before))) .parsed)
 
 enter-requires : tie.Need-enter-requires
 enter-requires c κs =

@@ -8,7 +8,7 @@ use Rattle.scenario.proofs.player.parsed.Statement.{statement}
 use Rattle.scenario.proofs.player.parsed.Tie as tie
 
 abbrev Inv-loop : tie.InvT-loop
-Inv-loop line base n₀ i₀ n i = (i ≤ 14) × (length n ≡ 105)
+Inv-loop line base n₀ i₀ n i = (i ≤ 14) × (length n ≡ 107)
 
 abbrev μ-loop : tie.MeasureT-loop
 μ-loop line base n₀ i₀ n i = 14 - i

@@ -8,7 +8,7 @@ use Rattle.scenario.proofs.player.with_needs.Statement.{statement}
 use Rattle.scenario.proofs.player.with_needs.Tie as tie
 
 abbrev Inv-loop : tie.InvT-loop
-Inv-loop tables n₀ from i₀ n i = (i ≤ 7) × (length n ≡ 105)
+Inv-loop tables n₀ from i₀ n i = (i ≤ 7) × (length n ≡ 107)
 
 abbrev μ-loop : tie.MeasureT-loop
 μ-loop tables n₀ from i₀ n i = 7 - i

@@ -6,10 +6,10 @@ use Rattle.scenario.proofs.words.place_in.Statement.{statement}
 use Rattle.scenario.proofs.words.place_in.Tie as tie
 
 abbrev Inv-loop : tie.InvT-loop
-Inv-loop table word k₀ k = k ≤ 49
+Inv-loop table word k₀ k = k ≤ 51
 
 abbrev μ-loop : tie.MeasureT-loop
-μ-loop table word k₀ k = 49 - k
+μ-loop table word k₀ k = 51 - k
 
 pub place-in-spec : {M : Type 1} → statement M
 place-in-spec =

@@ -1,6 +1,7 @@
 -- `wire::reader::credential` meets its contract: a walk of its MIR, by hand. The struct is taken apart, and `fields::credential_in` is called on the slice and the number.
 use mathlib.Core.Path.{_≡_, refl, _∙_}
 use Prim.Native.Nat.{_+_, _≤_, _<_, _^_}
+use native.Mathlib.Omega.{arith}
 use mathlib.Core.List.{[], _∷_}
 use lib.Dec.{T as Holds}
 use lib.ListN.{length}
@@ -41,8 +42,8 @@ use denote.Triple.Table.{entered, cited}
 use denote.Triple.Walked.{says, needs, Stays, stay-none, walkOf, goes-none, Walks, ends-at, walked, walk-meets}
 use denote.Exit.{yes}
 use denote.Triple.Clauses.{ensured, lasts}
-use Rattle.rules.specs.Frame.{credentialAt, credentialSize}
-use Rattle.fields.specs.Records.{credentialIn}
+use Rattle.rules.specs.Frame.{credentialAt, credentialLength, credentialSize}
+use Rattle.fields.specs.Records.{credential-most, credentialIn}
 use Rattle.wire.specs.declared.reader.Reader.{Reader}
 use Rattle.rules.specs.declared.Credential.{Credential as Cred}
 use Rattle.wire.proofs.reader.Reader as T
@@ -86,7 +87,7 @@ module _ {M : Type 1} (𝓤 : URA M) (H : Heap 𝓤) (A : Atoms 𝓤) (W : Given
   given-by = credentialIn (now (d .src)) (d .at)
 
   there : given-by ≡ found
-  there = rw (le-leb (d .at + credentialSize) (length (now (d .src))) within)
+  there = rw (le-leb (d .at + credentialLength found) (length (now (d .src))) (omega (arith, within, credential-most found)))
 
   abbrev Post : Val → SProp 𝓤
   Post = walkOf 𝓤 H A credential.ended stayed (credential.clauses 𝓤 H A mem run) .post (((κ, tt), (q, tt), tt, (d, tt), (mach ∷ [], tt)), tt)

@@ -41,7 +41,7 @@ use denote.Triple.Table.{entered, cited}
 use denote.Triple.Walked.{says, needs, Stays, stay-none, walkOf, goes-none, Walks, ends-at, walked, walk-meets}
 use denote.Exit.{yes}
 use denote.Triple.Clauses.{ensured, lasts}
-use Rattle.rules.specs.Frame.{requestAt}
+use Rattle.rules.specs.Frame.{groupRequestSize, requestAt}
 use Rattle.wire.specs.Parse.{answerOf, recordsAnswer}
 use Rattle.wire.specs.declared.reader.Reader.{Reader}
 use Rattle.rules.specs.declared.Credential.{Credential as Cred}
@@ -73,7 +73,7 @@ module _ {M : Type 1} (𝓤 : URA M) (H : Heap 𝓤) (A : Atoms 𝓤) (mem : Mem
   abbrev Core : Contract 𝓤
   Core = tripleOf 𝓤 H A core.signature (core.spec 𝓤 H A mem run)
 
-module _ {M : Type 1} (𝓤 : URA M) (H : Heap 𝓤) (A : Atoms 𝓤) (W : Given 𝓤 H A) (mem : Memory → SProp 𝓤) (run : Routine → Fun 𝓤) (κ : Lft) (q : Share) (d : Reader) (c : Cred) (within : d .at + 28 ≤ length (now (d .src))) where
+module _ {M : Type 1} (𝓤 : URA M) (H : Heap 𝓤) (A : Atoms 𝓤) (W : Given 𝓤 H A) (mem : Memory → SProp 𝓤) (run : Routine → Fun 𝓤) (κ : Lft) (q : Share) (d : Reader) (c : Cred) (within : d .at + groupRequestSize ≤ length (now (d .src))) where
   abbrev mach : Val
   mach = T′.lowered d
 
@@ -90,7 +90,7 @@ module _ {M : Type 1} (𝓤 : URA M) (H : Heap 𝓤) (A : Atoms 𝓤) (W : Given
 
   -- what is said of the result
   abbrev Said : Parsed → Type 0
-  Said r = answerOf r ≡ recordsAnswer c (requestAt (now (d .src)) (d .at)) (length (now (d .src)))
+  Said r = answerOf r ≡ recordsAnswer c (requestAt (now (d .src)) (d .at)) (d .at) (length (now (d .src)))
 
   abbrev Post : Val → SProp 𝓤
   Post = walkOf 𝓤 H A request.ended stayed (request.clauses 𝓤 H A mem run) .post (((κ, tt), (q, tt), tt, (d, (c, tt)), vals), tt)
