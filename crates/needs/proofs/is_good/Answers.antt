@@ -2,7 +2,7 @@
 use mathlib.Core.Path.{◌≡◌, refl, sym, ◌∙◌}
 use mathlib.Core.Bool.{Bool, ◌&&◌}
 use mathlib.Core.List.{List}
-use Prim.Native.Nat.{ℕ, ◌+◌, ◌-◌, ◌≤◌, ◌<◌}
+use Prim.Native.Nat.{ℕ, ◌+◌, ◌<◌}
 use native.Mathlib.Omega.{arith}
 use lib.Dec.{leb}
 use lib.ListN.{take}
@@ -13,14 +13,7 @@ use Rattle.lemmas.specs.Loops.{every_take}
 use Rattle.rules.specs.declared.Need.{Need}
 use Rattle.rules.specs.Needs.{default_need, good_need, good_needs, need_at, needs_at}
 use Rattle.needs.specs.TableBytes.{spelled_at, spelled-length}
-use Rattle.needs.proofs.is_good.Statement.{statement}
-use Rattle.needs.proofs.is_good.Tie as tie
-
-abbrev invariant-loop : tie.invariant-loop
-invariant-loop bytes good₀ i₀ good i = (i ≤ 7) × (good ≡ every good_need (take i (needs_at bytes)))
-
-abbrev decreases-loop : tie.decreases-loop
-decreases-loop bytes good₀ i₀ good i = 7 - i
+use Rattle.needs.proofs.is_good.Goals as goal
 
 -- one need more
 more : (b : List ℕ) (i : ℕ) (r g : Bool) (n : Need) → i < 7 → r ≡ every good_need (take i (needs_at b)) → g ≡ good_need n
@@ -37,25 +30,18 @@ all b i r n h e s =
     rw (e, s ∙ sym (spelled_at b 6 (default_need 7) (omega arith)), take_all i (needs_at b) (omega (arith, spelled-length b)))
     refl
 
-loop-holds : tie.Need-loop-init invariant-loop decreases-loop
+pub loop-i-init : goal.loop-i-init
 unfolding every
-loop-holds c = (search rules, refl)
+loop-i-init c = (search rules, refl)
 
-loop-again : tie.Need-loop-preserved invariant-loop decreases-loop
-loop-again c =
-    let l = c.before.before.before.loop in
-    let b = c.before.before.before.before.before.args.bytes.now in
-    (omega arith, more b l.i l.good _ _ (omega arith) l.invariant.1 c.is-good-need.ensures c.before.need-at.ensures)
+pub loop-i-preserved : goal.loop-i-preserved
+loop-i-preserved c =
+    let l = c.loop-i in
+    let b = c.args.bytes.now in
+    (omega arith, more b l.i l.good _ _ (omega arith) l.invariant.1 c.is_good_need-good.ensures c.need_at.ensures)
 
-returns : tie.Need-returns invariant-loop decreases-loop
+pub returns : goal.returns
 returns c =
-    let l = c.before.before.before.loop in
-    let b = c.before.before.before.before.before.args.bytes.now in
-    all b l.i l.good _ (omega arith) l.invariant.1 c.before.need-at2.ensures
-
-pub is-good-spec : {M : Type 1} → statement M
-is-good-spec =
-    tie.close
-    (tie.spec
-    invariant-loop decreases-loop loop-holds (λ c. search rules) (λ c κs. search rules) (λ c κs. search rules)
-    (λ c. search rules) (λ c. search rules) loop-again (λ c κs. search rules) returns)
+    let l = c.loop-i in
+    let b = c.args.bytes.now in
+    all b l.i l.good _ (omega arith) l.invariant.1 c.need_at-last.ensures
