@@ -6,18 +6,14 @@ use native.Mathlib.Omega.{arith}
 use lib.ListN.{length, drop}
 use borrow.Author.Rules.{rules}
 use Rattle.lines.specs.Decimal.{stored_before}
-use Rattle.lines.proofs.text.byte_before.Statement.{statement}
-use Rattle.lines.proofs.text.byte_before.Tie as tie
+use Rattle.lines.proofs.text.byte_before.Goals as goal
 
-returns : tie.Need-returns
+pub returns : goal.returns
 returns c =
-    let a = c.before.before.args in
+    let a = c.args in
     let long : length a.t.bytes ≡ 64 = search rules in
     let e : suc (a.t.from - 1) ≡ a.t.from = omega arith in (
       stored_before a.t.bytes (a.t.from - 1) a.b (omega arith)
           ∙ ap (λ (k : ℕ). a.b ∷ drop k a.t.bytes) e,
       omega arith,
     )
-
-pub byte-before-spec : {M : Type 1} → statement M
-byte-before-spec = tie.close (tie.spec (λ c. search rules) (λ c. search rules) returns)
