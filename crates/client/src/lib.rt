@@ -1,4 +1,6 @@
 // The client end of document 01: issuer, frame builder and reply check. The reply check is the crate `reply_check`'s.
+#![tactic(auto)]
+
 ghost use Rattle.client.specs.Met.{IssueMet, BuildMet};
 
 use digest::mac;

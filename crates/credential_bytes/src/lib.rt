@@ -1,4 +1,6 @@
 // A credential as document 01's 36 bytes.
+#![tactic(auto)]
+
 ghost use Rattle.std.specs.Prelude.{◌≡◌};
 ghost use Rattle.credential_bytes.specs.Put.{credential_put};
 

@@ -1,5 +1,7 @@
 // SHA-256 (FIPS 180-4) and HMAC (RFC 2104) over lent bytes. `sha256` and `hmac` refuse what is too long, row 27; the
 // module `mac` has no limit, and takes a message in one part or in several. The same for SHA-256 is `sha256_stream`.
+#![tactic(auto)]
+
 ghost use Rattle.std.specs.Prelude.{◌≡◌};
 ghost use Rattle.digest.specs.Digest.{sha256_answer, hmac_answer};
 

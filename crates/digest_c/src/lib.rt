@@ -1,5 +1,7 @@
 // The digests for C programs, such as the bench: the bytes go to the space lent, if it has room for them, and the row
 // comes back.
+#![tactic(auto)]
+
 ghost use Rattle.std.specs.Prelude.{◌≡◌, ◌++◌};
 ghost use Rattle.digest.specs.Hmac.{hmac};
 ghost use Rattle.digest.specs.Digest.{sha256_answer, hmac_answer};

@@ -1,5 +1,7 @@
 // The published examples of SHA-256 (FIPS 180-4) and of HMAC with it (RFC 4231), and messages at the edges of a block.
 // The file `stdout` has what each must give; no value in it comes from a run of this program.
+#![tactic(auto)]
+
 ghost use Rattle.std.specs.Prelude.{◌≡◌, ◌<◌, ◌≤◌};
 ghost use Rattle.digest_vectors.specs.Hex.{hex_digit, hex, count};
 

@@ -1,4 +1,6 @@
 // The drive of document 01: its record, format and the gate.
+#![tactic(auto)]
+
 ghost use Rattle.std.specs.Prelude.{◌≡◌};
 ghost use Rattle.drive.specs.Met.{call_of, FormatMet, GateMet};
 

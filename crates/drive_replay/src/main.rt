@@ -5,6 +5,8 @@
 //
 // `stdin` is the trace that `target/model/library 59 20 stdin stdout` writes (tests/model/build makes that program), and
 // `stdout` is what it expects.
+#![tactic(auto)]
+
 ghost use Rattle.std.specs.Prelude.{◌≡◌, length};
 ghost use Rattle.drive_replay.specs.Trace.{head_size, medium_size, buffer_size, Fits};
 

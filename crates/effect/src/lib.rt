@@ -1,5 +1,7 @@
 // What a granted operation does to the medium, and where it works. Everything is total: where bytes do not fit, nothing
 // is written.
+#![tactic(auto)]
+
 ghost use Rattle.std.specs.Prelude.{◌≡◌};
 ghost use Rattle.effect.specs.Effect.{medium_after, next_version_of};
 

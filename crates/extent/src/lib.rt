@@ -1,6 +1,8 @@
 // The medium (document 01, operations 1, 2 and 5, and format): an extent is written, cleared and read. "A write lends
 // on only the object's own part of the medium": what copies and clears is handed that part alone. Where the places
 // named do not lie inside what is lent, nothing changes.
+#![tactic(auto)]
+
 ghost use Rattle.std.specs.Prelude.{◌≡◌, ◌&&◌, cond, ◌+◌, length, replicate, leb};
 ghost use Rattle.lemmas.specs.Lists.{part, splice};
 

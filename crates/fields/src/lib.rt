@@ -1,5 +1,7 @@
 // Document 01's credential and request, read from bytes, and the request of a group credential (document 02, change 6). A part's
 // mark tells its form: which fields it has, and how long it is.
+#![tactic(auto)]
+
 ghost use Rattle.std.specs.Prelude.{◌≡◌};
 ghost use Rattle.rules.specs.Frame.{credential_length, request_length};
 ghost use Rattle.fields.specs.Records.{credential_in, request_in, request_read, rest_length};

@@ -1,6 +1,8 @@
 // The program `gate` (document 01, "Client end"): puts each input record of standard input to the gate of a freshly
 // formatted drive, and prints a line for each. All records that have arrived whole are answered, and their lines
 // written, before it waits for more; it reads and writes by buffers, and its memory does not grow with the input.
+#![tactic(auto)]
+
 ghost use Rattle.std.specs.Prelude.{◌≡◌, cond, ◌+◌, ◌*◌, ◌^◌, ◌≤◌, ◌<◌, length, take};
 ghost use Rattle.rules.specs.Program.{cut, formatted};
 ghost use Rattle.rules.specs.Program.{ended as Program·ended};

@@ -1,6 +1,8 @@
 // For bench/gate: puts each record of standard input to the gate of a freshly formatted drive, and prints at the end how
 // many calls were granted and how many refused. The records are the program `gate`'s (mark 4C 49, clock, frame length,
 // frame), one behind the other, but a frame may be as long as document 01 lets it. It stops where no whole record follows.
+#![tactic(auto)]
+
 ghost use Rattle.std.specs.Prelude.{◌≡◌, length};
 
 use drive::Drive;

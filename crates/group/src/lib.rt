@@ -1,4 +1,6 @@
 // Document 02, change 6: whether a group object's bytes are a list of object numbers, and whether a member is in it.
+#![tactic(auto)]
+
 ghost use Rattle.std.specs.Prelude.{◌≡◌, ◌+◌, ◌≤◌, length};
 ghost use Rattle.lemmas.specs.BigEndian.{number_at};
 ghost use Rattle.rules.specs.Group.{member_size};

@@ -1,6 +1,8 @@
 // Rows 10 to 23, with rows 32 to 34 after 15 and 31 after 21, judged of one partition's table and of what is known of the rest that
 // a frame can see. Every test is made whatever the others say; the first row that applies is the answer. And what a frame's operation
 // needs, by which rows 7 and 13 go.
+#![tactic(auto)]
+
 ghost use Rattle.std.specs.Prelude.{◌≡◌, ◌&&◌, List, ℕ, get_or};
 ghost use Rattle.lemmas.specs.RowTable.{first_row};
 ghost use Rattle.lemmas.specs.Tests.{◌under◌};

@@ -1,6 +1,8 @@
 // The drive's keys in one lent array of bytes: first the keys, one after the other, then a byte for each key that says, not
 // 0, that it was set. The keys are the four partitions' working keys 0 (document 01's black), their working keys 1 (gold),
 // their partition keys, the drive key and the master key.
+#![tactic(auto)]
+
 ghost use Rattle.std.specs.Prelude.{◌≡◌, ◌≤◌};
 ghost use Rattle.keyring.specs.Keys.{partition_keys_from, is_set, index_among_four, key_index, target_index, key_stored, formatted_keys};
 

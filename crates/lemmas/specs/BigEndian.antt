@@ -1,6 +1,6 @@
 -- Unsigned numbers in bytes, big-endian: the most significant byte first. One definition for every width.
 use Rattle.std.specs.Prelude.{◌≡◌, refl, List, [], ◌∷◌, ◌++◌, ℕ, zero, suc, ◌+◌, ◌*◌, ◌/◌, ◌%◌, ◌^◌, ◌≤◌, ◌<◌, length, get_or}
-use Rattle.std.proofs.Common.{sym, ap, ◌∙◌, append_assoc, pow-suc, add_assoc, arith, length-append, get_or-append-add}
+use Rattle.std.proofs.Common.{sym, ap, subst, ◌∙◌, append_assoc, pow-suc, add_assoc, arith, length-append, get_or-append-add}
 use Rattle.std.proofs.Math.Nat.{pow-succ', div-div-eq-div-mul}
 use Rattle.std.proofs.Math.ListN.{get_or-append}
 use Rattle.std.proofs.lemmas.List.{get_or_at}
@@ -85,7 +85,9 @@ number_of-bytes (suc n) x p q h =
     let hi : number_at l (length p) n ≡ x / 256 = number_of-bytes n (x / 256) p (r ∷ q) (below_div x n h) in
     let lo : get_or l (length p + n) 0 ≡ r =
     get_or-append-add p (b ++ (r ∷ q)) n 0 ∙ get_or_at b r q 0 n (length-big_endian n (x / 256)) in
-    rw (big_endian_last n x, append_assoc b (r ∷ []) q) (omega arith)
+    let sum : number_at l (length p) n * 256 + get_or l (length p + n) 0 ≡ x = omega arith in
+    let whole : big_endian (suc n) x ++ q ≡ b ++ (r ∷ q) = rw (big_endian_last n x) (append_assoc b (r ∷ []) q) in
+    subst (λ (z : List ℕ). number_at (p ++ z) (length p) (suc n) ≡ x) (sym whole) sum
 
 -- and so is every field of every layout
 pub read-encode : (ws vs p q : List ℕ) → AllFit ws vs → read_all (p ++ (encode ws vs ++ q)) (length p) ws ≡ vs
@@ -102,7 +104,8 @@ read-encode (w ∷ ws) (v ∷ vs) p q fit =
     let rest : read_all ((p ++ b) ++ (e ++ q)) (length (p ++ b)) ws ≡ vs = read-encode ws vs (p ++ b) q fit.1 in
     let there : read_all (p ++ (b ++ (e ++ q))) (length p + w) ws ≡ vs =
     rw (append_assoc p b (e ++ q), size) at rest in
-    rw (append_assoc b e q, head, there)
+    let whole : encode (w ∷ ws) (v ∷ vs) ++ q ≡ b ++ (e ++ q) = append_assoc b e q in
+    subst (λ (z : List ℕ). read_all (p ++ z) (length p) (w ∷ ws) ≡ v ∷ vs) (sym whole) (λ i. head i ∷ there i)
 
 -- ---- a number is below 256 to its width
 pub number_bound : (s : List ℕ) (i n : ℕ) → ((k : ℕ) → get_or s k 0 < 256) → number_at s i n < 256 ^ n

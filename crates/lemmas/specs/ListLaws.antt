@@ -138,6 +138,7 @@ module _ {A : Type 0} where
 
   pub every-member : (t : A → Bool) (l : List A) (a : A) → every t l ≡ true → Memᴰ a l → t a ≡ true
   unfolding every
+  every-member t [] a h k = elim k [ ]
   every-member t (x ∷ xs) a h (Memᴰ.head e) = rw e (and_l (t x) (every t xs) h)
   every-member t (x ∷ xs) a h (Memᴰ.tail k) = every-member t xs a (and_r (t x) (every t xs) h) k
 
@@ -178,6 +179,7 @@ module _ {A : Type 0} where
   pub pairs-members : (t : A → A → Bool) (l : List A) (a b : A) → pairs t l ≡ true → Memᴰ a l → Memᴰ b l
       → (a ≡ b) ⊎ ((t a b ≡ true) ⊎ (t b a ≡ true))
   unfolding pairs
+  pairs-members t [] a b h k m = elim k [ ]
   pairs-members t (x ∷ xs) a b h (Memᴰ.head e) (Memᴰ.head f) = inl (e ∙ sym f)
   pairs-members t (x ∷ xs) a b h (Memᴰ.head e) (Memᴰ.tail k) =
       inr (inl (rw e (every-member (t x) xs b (and_l (every (t x) xs) (pairs t xs) h) k)))
@@ -230,6 +232,7 @@ module _ {A : Type 0} where
 
   pub keep-member : (t : A → Bool) (l : List A) (a : A) → Memᴰ a l → t a ≡ true → Memᴰ a (keep t l)
   unfolding keep
+  keep-member t [] a k h = elim k [ ]
   keep-member t (x ∷ xs) a (Memᴰ.head e) h = rw (ap t (sym e) ∙ h) (Memᴰ.head e)
   keep-member t (x ∷ xs) a (Memᴰ.tail k) h = go (t x) (keep-member t xs a k h)
     where
@@ -315,6 +318,7 @@ module _ {A : Type 0} where
   pub member-change : (number : A → ℕ) (n : ℕ) (g : A → A) (l : List A) (a : A) → Memᴰ a (change number n g l)
       → (Memᴰ a l × (number a ≡ n → ⊥)) ⊎ ((b : A) × Memᴰ b l × (number b ≡ n) × (a ≡ g b))
   unfolding change
+  member-change number n g [] a k = elim k [ ]
   member-change number n g (x ∷ xs) a (Memᴰ.head e) = go (number x is n) refl e
     where
       go : (b : Bool) → (number x is n) ≡ b → a ≡ cond b (g x) x → (Memᴰ a (x ∷ xs) × (number a ≡ n → ⊥))
@@ -371,6 +375,7 @@ module _ {A : Type 0} where
 
   pub member_some : (t : A → Bool) (l : List A) (a : A) → Memᴰ a l → t a ≡ true → some? t l ≡ true
   unfolding some?
+  member_some t [] a k h = elim k [ ]
   member_some t (x ∷ xs) a (Memᴰ.head e) h = or_intro_l (t x) (some? t xs) (ap t (sym e) ∙ h)
   member_some t (x ∷ xs) a (Memᴰ.tail k) h = or_intro_r (t x) (some? t xs) (member_some t xs a k h)
 

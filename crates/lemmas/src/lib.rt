@@ -1,4 +1,6 @@
 // General definitions and laws are in specs/. The two functions here are those that several crates' code needs.
+#![tactic(auto)]
+
 ghost use Rattle.std.specs.Prelude.{◌≡◌, cond, min};
 
 // One row of a table, judged from the last to the first: its number where it applies, else what the later rows gave.

@@ -1,5 +1,7 @@
 // The lines that the programs print: one for each call and a last one (document 01), one for each count and a last one
 // (document 02, change 1).
+#![tactic(auto)]
+
 mod text;
 
 ghost use Rattle.rules.specs.Program.{decimal, printed, ended, cut};

@@ -1,6 +1,8 @@
 // Standard input and output, with a log of each. What a read brought and what was handed to a write is added to a log
 // that the caller lends, as far as it has room: so contracts can speak of all bytes that came in and went out, however
 // many. Nothing reads a log. A program lends logs of no byte, and nothing is copied.
+#![tactic(auto)]
+
 ghost use Rattle.std.specs.Prelude.{◌≤◌, ◌≡◌, length, take};
 ghost use Rattle.logged.specs.Log.{Added};
 

@@ -1,6 +1,8 @@
 // A replay memory (document 01's nonce memory) in two lent slices: `entries` has the numbers of its entries, ENTRY for each, one
 // behind the other; `times` has their times, in a row of their own, so that a pass over all of them is quick. Everything is
 // total: there are as many entries as both slices have whole.
+#![tactic(auto)]
+
 ghost use Rattle.std.specs.Prelude.{◌≡◌, ℕ, ◌+◌, ◌-◌, ◌*◌, ◌<◌, ◌≤◌, true, false, length, take, nat_lt, slice_index_or, slice_set};
 ghost use Rattle.lemmas.specs.Lists.{some?, splice};
 ghost use Rattle.rules.specs.Drive.{time_window, same_entry};

@@ -1,5 +1,7 @@
 // What operations need (document 02, change 5: "a mask of required rights and a least level"): document 01's rule, rows 7 and 13
 // by a need, and the table that operation 8 brings as bytes.
+#![tactic(auto)]
+
 ghost use Rattle.std.specs.Prelude.{◌≡◌, ◌-◌, ◌<◌, ◌^◌, min, get_or};
 ghost use Rattle.rules.specs.Needs.{default_need, good_need, good_needs, need_at, needs_at};
 ghost use Rattle.rules.specs.Rows.{lacks_right, low_level};

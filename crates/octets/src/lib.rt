@@ -1,6 +1,8 @@
 // Bytes at a place of a lent slice: big-endian numbers read and written, bytes copied and compared.
+#![tactic(auto)]
+
 ghost use Rattle.std.specs.Prelude.{◌≡◌, ◌+◌, ◌<◌, ◌^◌, leb};
-ghost use Rattle.lemmas.specs.Lists.{same as Lists·same};
+ghost use Rattle.lemmas.specs.Lists.{same as lists_same};
 ghost use Rattle.octets.specs.Numbers.{number_in, number_put, bytes_put};
 
 pub mod layout;
@@ -38,7 +40,7 @@ pub fn put(s: &mut [u8], at: usize, n: usize, x: u64)
 
 // Whether a and b are the same bytes. Where they are as long as each other every byte of both is read, whatever it is.
 pub fn same(a: &[u8], b: &[u8]) -> bool
-    ensures { result ≡ Lists·same a.now b.now }
+    ensures { result ≡ lists_same a.now b.now }
 {
     if a.len() != b.len() {
         return false;

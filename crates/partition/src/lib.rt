@@ -1,4 +1,6 @@
 // What a granted operation does to its partition's table (operations 4 to 6 of document 01, operation 8 of document 02). Total.
+#![tactic(auto)]
+
 ghost use Rattle.rules.specs.Needs.{needs_at};
 ghost use Rattle.state.specs.Changes.{ChangedTo};
 ghost use Rattle.partition.specs.Partition.{content_after};

@@ -1,5 +1,7 @@
 // Document 01, operation 5: where a new object's extent starts, over any step. One pass over the objects: the gap at
 // the quarter's start, then the one at each extent's end, against the best so far. In 64 bits, so no sum wraps.
+#![tactic(auto)]
+
 ghost use Rattle.std.specs.Prelude.{◌≡◌, ◌||◌, cond, ◌+◌, ◌-◌, ◌*◌, ◌/◌, ◌^◌, ◌≤◌, min, leb};
 ghost use Rattle.lemmas.specs.Tests.{◌under◌};
 ghost use Rattle.rules.specs.BestFit.{spot, better, best_fit};

@@ -1,6 +1,8 @@
 // The records of standard input, put to the gate of a drive: the one loop under every program that reads records
 // (document 01, "Client end"; document 02, change 1). A call of `next` is a round of it. What a program makes of the answers
 // is its own.
+#![tactic(auto)]
+
 mod answers;
 mod arrivals;
 mod whole;

@@ -1,5 +1,7 @@
 // One input record of a program (document 01: mark 4C 49, clock, frame length, frame). most: the longest frame that the
 // program takes, in bytes.
+#![tactic(auto)]
+
 ghost use Rattle.std.specs.Prelude.{◌≡◌};
 ghost use Rattle.record.specs.Arrival.{malformed, facts_of, record_facts};
 

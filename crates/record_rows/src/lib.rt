@@ -1,5 +1,7 @@
 // Rows 3 to 6 of document 01 over a credential and a request, as changes 5 and 6 of document 02 read them, each a test with no
 // branch; and what the client end refuses of the two.
+#![tactic(auto)]
+
 ghost use Rattle.std.specs.Prelude.{◌≡◌};
 ghost use Rattle.rules.specs.Rows.{row3, row4, row6, outside_credential, outside_request, data_length, wrong_data};
 ghost use Rattle.rules.specs.Client.{bad_records};

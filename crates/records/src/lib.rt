@@ -1,4 +1,6 @@
 // The two records of a frame as C structs, and the results that are numbers: encoded and decoded.
+#![tactic(auto)]
+
 ghost use Rattle.std.specs.Prelude.{◌≡◌};
 ghost use Rattle.rules.specs.Frame.{credential_size, group_request_size, request_size};
 ghost use Rattle.records.specs.Coding.{credential_from, credential_fields, request_with, request_from, group_request_from, request_fields, no_credential, no_request, encode_row, credential_encoded, request_encoded, group_request_encoded, credential_decoded, request_decoded, group_request_decoded, look_decoded, version_decoded};

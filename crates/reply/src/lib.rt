@@ -1,4 +1,6 @@
 // A reply's head and lengths, as document 01 has them: "mark 4C 41, operation, level, result length (four bytes), result".
+#![tactic(auto)]
+
 ghost use Rattle.std.specs.Prelude.{◌≡◌, cond, ◌+◌};
 ghost use Rattle.lemmas.specs.Tests.{◌is◌};
 ghost use Rattle.rules.specs.Frame.{digest_size};

@@ -1,4 +1,6 @@
 // The client end of document 01: the check of a reply, rows 26, 28 and 30.
+#![tactic(auto)]
+
 ghost use Rattle.std.specs.Prelude.{◌≡◌, ◌+◌, length};
 ghost use Rattle.lemmas.specs.RowTable.{first_row};
 ghost use Rattle.rules.specs.Frame.{digest_size};

@@ -1,6 +1,8 @@
 // The program `report` (document 02, change 1): reads what `gate` reads, puts the same calls to a drive that is formatted
 // the same way, and prints at the end how many calls there were of each partition and row. Its memory does not grow with
 // the input.
+#![tactic(auto)]
+
 ghost use Rattle.std.specs.Prelude.{◌≡◌, ◌≤◌, length, ◌++◌};
 ghost use Rattle.rules.specs.Program.{formatted};
 ghost use Rattle.rules.specs.Report.{counter_count, count_lines, counts_from, total};

@@ -1,4 +1,6 @@
 // A request as its bytes: document 01's 28, or the 32 of a group credential's (document 02, change 6).
+#![tactic(auto)]
+
 ghost use Rattle.std.specs.Prelude.{◌≡◌};
 ghost use Rattle.request_bytes.specs.Put.{request_put};
 

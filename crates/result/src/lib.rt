@@ -1,4 +1,6 @@
 // The result of a granted operation, in the reply. Where it does not fit, nothing is written.
+#![tactic(auto)]
+
 ghost use Rattle.std.specs.Prelude.{◌≡◌};
 ghost use Rattle.result.specs.Result.{result_put};
 

@@ -1,4 +1,5 @@
 // Document 01's records and numbers, shared by the definitions in specs/ and by the code above. This crate has no function.
+#![tactic(auto)]
 
 // "M is at most 16,777,216"; "at most 16 a partition"; "64 at most".
 pub const LARGEST_MEDIUM: usize = 16777216;

@@ -1,6 +1,8 @@
 // Plays the scenarios of the script on standard input: each line sets a number of the calls that follow, puts a frame to
 // the gate or prints what the drive has; `stdin` says at its head what the words mean. Frames are made by the client end,
 // and `stdout` has the rows and replies that must come, in hexadecimal.
+#![tactic(auto)]
+
 ghost use Rattle.std.specs.Prelude.{◌≡◌, length};
 
 use drive::{Answer, Drive};

@@ -1,4 +1,6 @@
 // The reply to a granted frame: its head, the result, and at level 2 its digest.
+#![tactic(auto)]
+
 ghost use Rattle.std.specs.Prelude.{◌≡◌};
 ghost use Rattle.sealed_reply.specs.Reply.{seal_put, reply_put};
 

@@ -1,4 +1,6 @@
 // Operation 7: the drive's keys after it. The other operations leave them.
+#![tactic(auto)]
+
 ghost use Rattle.std.specs.Prelude.{◌≡◌};
 ghost use Rattle.set_key.specs.Keys.{keys_after};
 

@@ -1,4 +1,6 @@
 // A block of 64 bytes worked into the eight words of a hash: FIPS 180-4, section 6.2.2.
+#![tactic(auto)]
+
 ghost use Rattle.std.specs.Prelude.{◌≡◌, ◌+◌, ◌-◌, ◌*◌, ◌/◌, ◌<◌, ◌≤◌, length, take, drop};
 ghost use Rattle.sha256_block.specs.Sha256 as Fips;
 

@@ -1,5 +1,7 @@
 // SHA-256 (FIPS 180-4) of a message taken part by part, of any length: the words so far, the bytes of the block that is not full yet, and the
 // count of all bytes. Whole blocks are read straight from the part lent; only the ends of parts are copied.
+#![tactic(auto)]
+
 ghost use Rattle.std.specs.Prelude.{◌≡◌, ◌+◌, ◌<◌, ◌≤◌, [], ◌∷◌, ◌++◌, length, take, drop};
 ghost use Rattle.std.proofs.Math.Seq.{paste};
 ghost use Rattle.lemmas.specs.BigEndian.{big_endian};

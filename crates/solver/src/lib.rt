@@ -1,5 +1,7 @@
 // The client end for the cutting solver, which is written in C: frame builder and reply check here, the records' encoders and
 // decoders in `codec`. include/sievelast.h declares all of them.
+#![tactic(auto)]
+
 ghost use Rattle.std.specs.Prelude.{◌≡◌};
 ghost use Rattle.solver.specs.Exported.{built_of, space_after, checked_of};
 

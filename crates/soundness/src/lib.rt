@@ -1,4 +1,6 @@
 // Row 1 of one partition's table: each object is sound, and every two are apart.
+#![tactic(auto)]
+
 ghost use Rattle.std.specs.Prelude.{◌≡◌, ◌+◌, ◌%◌, ◌^◌, ◌<◌, ◌≤◌, true, ◌&&◌, length, slice_index};
 ghost use Rattle.lemmas.specs.Tests.{◌is◌};
 ghost use Rattle.rules.specs.Drive.{most_objects, sound_partition};

@@ -3,6 +3,8 @@
 // operations 1 to 7, the masks and the least levels of its operation table (document 02, change 5).
 // Everything is total: a list of another length holds no object and is never changed, and a count over sixteen is taken
 // for sixteen.
+#![tactic(auto)]
+
 ghost use Rattle.std.specs.Prelude.{◌≡◌, ◌≤◌, ◌<◌, length, get_or};
 ghost use Rattle.lemmas.specs.Lists.{change};
 ghost use Rattle.rules.specs.declared.Object.{Object};

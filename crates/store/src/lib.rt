@@ -1,5 +1,7 @@
 // The drive for a store that is written in C: format, the gate and the issuer, over a record whose parts the caller lends and
 // keeps. include/sievelast_store.h declares them, and the record as one struct.
+#![tactic(auto)]
+
 ghost use Rattle.std.specs.Prelude.{◌≡◌};
 ghost use Rattle.drive.specs.Met.{call_of, FormatMet, GateMet};
 ghost use Rattle.drive.specs.Lent.{record_of, answer_with, formatted_with};

@@ -1,4 +1,6 @@
 // Counts of calls by place and row (document 02, change 1), in a lent array of counters.
+#![tactic(auto)]
+
 ghost use Rattle.std.specs.Prelude.{◌≡◌};
 ghost use Rattle.lines.specs.Text.{TextPut};
 ghost use Rattle.rules.specs.Report.{place_of};

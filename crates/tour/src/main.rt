@@ -1,4 +1,6 @@
 // A tour: a drive is made ready, a log's shape is written to it and read back, and the same frame is tried again.
+#![tactic(auto)]
+
 ghost use Rattle.std.specs.Prelude.{◌≡◌, length};
 
 use digest::mac;

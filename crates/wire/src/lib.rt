@@ -1,4 +1,6 @@
 // The parse of a frame (document 01, rows 2 to 6): its fields, or the row that refuses it.
+#![tactic(auto)]
+
 ghost use Rattle.std.specs.Prelude.{◌≡◌};
 ghost use Rattle.rules.specs.Frame.{target_of};
 ghost use Rattle.wire.specs.Parse.{operation_numbers, reach_magic, reach_member, numbers_of, answer_of, answer_row, frame_answer};

@@ -9,15 +9,7 @@ use lib.Seq.{take-suc, drop-cons, set_at, length-take-le, take_all}
 use Rattle.lemmas.specs.Lists.{splice}
 use Rattle.lemmas.specs.BigEndian.{big_endian, length-big_endian}
 use Rattle.lemmas.specs.Layout.{last_byte, first_bytes}
-use Rattle.octets.proofs.places.put_at.Statement.{statement}
-use Rattle.octets.proofs.places.put_at.Tie as tie
-
-abbrev invariant-loop : tie.invariant-loop
-invariant-loop s₀ at n x i₀ rest₀ s i rest =
-    (i ≤ n) × (s ≡ take (at + i) s₀ ++ (drop i (big_endian n x) ++ drop (at + n) s₀)) × (take i (big_endian n x) ≡ big_endian i rest) × (length s ≡ length s₀)
-
-abbrev decreases-loop : tie.decreases-loop
-decreases-loop s₀ at n x i₀ rest₀ s i rest = i
+use Rattle.octets.proofs.places.put_at.Goals as goal
 
 -- one byte more, at j, before those that are written
 stored : (s s₀ b : List ℕ) (at n j y : ℕ) → at + n ≤ length s₀ → j < n → length b ≡ n → get_or b j 0 ≡ y
@@ -30,8 +22,8 @@ stored s s₀ b at n j y fits below size is e =
     let next : drop j b ≡ y ∷ drop (suc j) b = rw (drop-cons b j 0 (omega arith), is) in
     rw (whole, next) (set_at (take (at + j) s₀) (get_or s₀ (at + j) 0) t y (at + j) (length-take-le (at + j) s₀ (omega arith)))
 
-loop-holds : tie.Need-loop-init invariant-loop decreases-loop
-loop-holds c =
+pub loop-i-init : goal.loop-i-init
+loop-i-init c =
     let a = c.args in
     let k : length (big_endian a.n a.x) ≡ a.n = length-big_endian a.n a.x in (
       omega arith,
@@ -40,10 +32,10 @@ loop-holds c =
       refl,
     )
 
-loop-again : tie.Need-loop-preserved invariant-loop decreases-loop
-loop-again c =
-    let a = c.before.before.args in
-    let l = c.before.loop in
+pub loop-i-preserved : goal.loop-i-preserved
+loop-i-preserved c =
+    let a = c.args in
+    let l = c.loop-i in
     let j : ℕ = l.i - 1 in
     let one : l.i ≡ suc j = omega arith in
     let b : List ℕ = big_endian a.n a.x in
@@ -54,17 +46,10 @@ loop-again c =
       simp length-set l.invariant.3,
     )
 
-returns : tie.Need-returns invariant-loop decreases-loop
+pub returns : goal.returns
 unfolding splice
 returns c =
-    let l = c.before.loop in
-    let a = c.before.before.args in
+    let l = c.loop-i in
+    let a = c.args in
     let e : l.i ≡ 0 = omega arith in
     rw (length-big_endian a.n a.x) (rw (e, add-zero) at l.invariant.1)
-
-pub put-at-spec : {M : Type 1} → statement M
-put-at-spec =
-    tie.close
-    (tie.spec
-    invariant-loop decreases-loop loop-holds (λ c. omega arith) (λ c. omega arith) (λ c. omega arith) (λ c. omega arith) (λ c. omega arith) loop-again
-    (λ c. omega arith) returns)

@@ -1,19 +1,17 @@
 -- `octets::same` meets its contract. The loop's invariant: the bytes passed are the same exactly if no bit of them differed.
-use Prim.Native.Nat.{ℕ, ◌+◌, ◌-◌, ◌≤◌, ◌<◌}
+use Prim.Native.Nat.{ℕ, ◌+◌}
 use mathlib.Core.Path.{◌≡◌, refl, sym, ◌∙◌}
 use mathlib.Core.Bool.{Bool, true, false, ◌&&◌}
 use mathlib.Core.List.{[]}
 use native.Mathlib.Numerals.{add-one}
 use native.Mathlib.Omega.{arith}
 use lib.Dec.{eqb}
-use lib.ListN.{length, take, get_or}
+use lib.ListN.{take, get_or}
 use lib.Seq.{take-suc, length-take-le, take_all}
 use lib.Bits.{bit_and, bit_or, bit_xor, or_add_and, xor_add_and, and_le_l, and_le_r, xor_self, or_zero_l, or_lt, xor_lt}
 use borrow.Author.Tests.{eq-eqb, ne_eqb, eqb-true, eqb-false}
-use Rattle.lemmas.specs.Lists.{same}
 use Rattle.lemmas.specs.Same.{same_lengths, same_snoc, same_refl}
-use Rattle.octets.proofs.same.Statement.{statement}
-use Rattle.octets.proofs.same.Tie as tie
+use Rattle.octets.proofs.same.Goals as goal
 
 -- a byte's differences join: there is none exactly if there was none before and the two bytes are the same
 joined : (d x y : ℕ) → eqb (bit_or d (bit_xor x y)) 0 ≡ (eqb d 0 && eqb x y)
@@ -27,41 +25,29 @@ joined d x y = by-case (eqb d 0) (eqb x y) refl refl
     by-case true false p q = ne_eqb (bit_or d (bit_xor x y)) 0 (λ e. eqb-false x y q (omega (arith, above, eqb-true d 0 p, and_le_l d (bit_xor x y), xor_add_and x y, and_le_l x y, and_le_r x y)))
     by-case false u p q = ne_eqb (bit_or d (bit_xor x y)) 0 (λ e. eqb-false d 0 p (omega (arith, above, and_le_r d (bit_xor x y))))
 
-abbrev invariant-loop : tie.invariant-loop
-invariant-loop a b diff₀ i₀ diff i = (i ≤ length a) × (diff < 256) × (same (take i a) (take i b) ≡ eqb diff 0)
+pub returns-then-a-b : goal.returns-then-a-b
+returns-then-a-b c = sym (same_lengths _ _ c.if-a-b.true)
 
-abbrev decreases-loop : tie.decreases-loop
-decreases-loop a b diff₀ i₀ diff i = length a - i
+pub loop-i-init : goal.loop-i-init
+loop-i-init c = (omega arith, omega arith, same_refl [])
 
-returns : tie.Need-returns invariant-loop decreases-loop
-returns c = sym (same_lengths _ _ c.if1.true)
-
-loop-holds : tie.Need-loop-init invariant-loop decreases-loop
-loop-holds c = (omega arith, omega arith, same_refl [])
-
-loop-again : tie.Need-loop-preserved invariant-loop decreases-loop
-loop-again c =
-    let l = c.before.before.before.loop in
-    let r = c.before.before.before.before.before.args in
+pub loop-i-preserved : goal.loop-i-preserved
+loop-i-preserved c =
+    let l = c.loop-i in
+    let r = c.args in
     let a = r.a.now in
     let b = r.b.now in
     let x = get_or a l.i 0 in
     let y = get_or b l.i 0 in (
       omega arith,
-      or_lt 8 l.diff (bit_xor x y) l.invariant.1 (xor_lt 8 x y (omega (arith, c.before.shared-slice-known.given l.i)) (omega (arith, c.shared-slice-known2.given l.i))),
+      or_lt 8 l.diff (bit_xor x y) l.invariant.1 (xor_lt 8 x y (omega (arith, c.shared_slice_known-1.given l.i)) (omega (arith, c.shared_slice_known-in-loop-i-1.given l.i))),
       rw (add-one, take-suc a l.i 0 (omega arith), take-suc b l.i 0 (omega arith), same_snoc (take l.i a) (take l.i b) x y (length-take-le l.i a (omega arith) ∙ sym (length-take-le l.i b (omega arith))), l.invariant.2) (sym (joined l.diff x y)),
     )
 
-returns-2 : tie.Need-returns-2 invariant-loop decreases-loop
-returns-2 c =
-    let l = c.before.loop in
-    let r = c.before.before.before.args in
+pub returns : goal.returns
+returns c =
+    let l = c.loop-i in
+    let r = c.args in
     let a = r.a.now in
     let b = r.b.now in
     sym l.invariant.2 ∙ cc (take_all l.i a (omega arith), take_all l.i b (omega arith))
-
-pub same_spec : {M : Type 1} → statement M
-same_spec =
-    tie.close
-    (tie.spec
-    invariant-loop decreases-loop returns loop-holds (λ c. omega arith) (λ c. omega arith) (λ c. omega arith) (λ c. omega arith) loop-again returns-2)
