@@ -1,4 +1,4 @@
-/* Sievelast's client end for C: build a frame, check a reply. Link libsievelast.a, which is `rt staticlib solver`'s libsolver.a.
+/* Sievelast's client end for C: build a frame, check a reply. Link libsievelast.a, which is `tools/build solver`'s libsolver.a.
  * sievelast_records.h has lengths, rows and the records, and says what holds for every call. An example: examples/solver.c.
  *
  * Rows (why a call said no); 0 means granted:

@@ -1,5 +1,5 @@
 /* Sievelast's drive for C: format a medium, put frames to the gate, issue credentials. Link libsievelast_store.a, which is
- * `rt staticlib store`'s libstore.a; it may stand in one program with libsievelast.a. sievelast_records.h has lengths, rows and
+ * `tools/build store`'s libstore.a; it may stand in one program with libsievelast.a. sievelast_records.h has lengths, rows and
  * the records, and says what holds for every call. An example: examples/store.c.
  *
  * Who owns what. The caller lends everything and keeps it: the record (struct sievelast_drive) and the medium (M bytes, fixed at

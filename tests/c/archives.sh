@@ -3,7 +3,7 @@
 # no more than memcpy and memset; no byte of data that could be written, so that no call keeps anything; and both link into one
 # shared object.
 #
-#   tests/c/archives.sh      after rt staticlib solver and rt staticlib store
+#   tests/c/archives.sh      after tools/build solver store
 set -eu
 root=$(cd "$(dirname "$0")/../.." && pwd)
 solver=$root/target/staticlib/libsolver.a

@@ -2,7 +2,7 @@
 # Each header compiles alone and twice included, as C and as C++, without a warning under the flags that careful houses use; all
 # of them in one program, whichever comes first; and a C++ program over both archives runs (headers.cc). Needs gcc, clang and their C++.
 #
-#   tests/c/headers.sh      after rt staticlib solver and rt staticlib store
+#   tests/c/headers.sh      after tools/build solver store
 set -eu
 root=$(cd "$(dirname "$0")/../.." && pwd)
 strict='-pedantic -Wall -Wextra -Wconversion -Wsign-conversion -Wshadow -Wundef -Wcast-qual -Wcast-align -Werror'

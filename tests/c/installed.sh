@@ -2,7 +2,7 @@
 # tools/install, and what a house does with an installed copy: every example and the C tests are built through pkg-config, in
 # another directory and with nothing of the source tree but their own sources, and the tests run.
 #
-#   tests/c/installed.sh      after rt staticlib solver and rt staticlib store
+#   tests/c/installed.sh      after tools/build solver store
 set -eu
 root=$(cd "$(dirname "$0")/../.." && pwd)
 work=$(mktemp -d)
@@ -48,20 +48,21 @@ status=0
 "$root/tools/install" 2>said || status=$?
 [ "$status" -eq 2 ] || fail "without PREFIX the status is $status"
 
-# ---- an archive that is missing or older than the code is built by rt, here one that copies it; where that fails nothing is
-# installed
-mkdir -p tree/crates/solver bin
+# ---- an archive that is missing or older than the code is built by rt, here one that copies it into the crate's out/; where that
+# fails nothing is installed
+mkdir -p tree/crates/solver_c tree/crates/store_c bin
 cp -r "$root/include" "$root/tools" "$root/crates.txt" tree
 cat >bin/rt <<EOT
 #!/bin/sh
-[ "\$1" = staticlib ] && mkdir -p target/staticlib && cp "$root/target/staticlib/lib\$2.a" target/staticlib
+made=\$(basename "\$PWD")
+[ "\$1" = lib ] && mkdir -p out && cp "$root/target/staticlib/lib\${made%_c}.a" "out/lib\$made.a"
 EOT
 chmod +x bin/rt
 PATH=$work/bin:$PATH tree/tools/install made >said
 holds made "$work/made"
 echo old >tree/target/staticlib/libsolver.a
 touch -d '1 hour ago' tree/target/staticlib/libsolver.a
-touch tree/crates/solver/lib.rt
+touch tree/crates/solver_c/lib.rt
 PATH=$work/bin:$PATH tree/tools/install again >said
 holds again "$work/again"
 rm tree/target/staticlib/libstore.a

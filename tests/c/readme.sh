@@ -22,7 +22,7 @@ block 'A store in six commands' 1 >"$out/commands"
 block 'A store in six commands' 2 >"$out/expected"
 block 'One credential for a stack of logs' 1 >"$out/stack"
 block 'One credential for a stack of logs' 2 >"$out/stack-expected"
-first='rt staticlib solver && rt staticlib store'
+first='tools/build solver store'
 commands=$(grep -c '^[^ ]' "$out/commands") || true
 if [ "$(head -n 1 "$out/commands")" != "$first" ] || [ "$commands" -ne 6 ] || [ ! -s "$out/expected" ]; then
     echo "readme: expected six commands, '$first' first, and what they print; README.md has $commands"
