@@ -23,7 +23,7 @@ const ROUND_WORDS: [u32; 64] = [
 ];
 
 // Eight words: the hash value, and the working variables.
-#[derive(Drop)]
+#[derive(Clone, Copy)]
 pub struct State {
     pub a: u32,
     pub b: u32,

@@ -1,0 +1,17 @@
+-- The sum of the four words, by what each call ensures, is the next word of its lane: lanes_next.
+use Rattle.sha256_block.proofs.Schedules.{lanes_next}
+use Rattle.sha256_block.proofs.lanes.next_at.Goals as goal
+
+pub returns : goal.returns
+returns c =
+    let a = c.args in
+    let h = c.requires in
+    λ m known.
+    rw (
+      c.wrapping_add_u32-3.ensures.value,
+      c.wrapping_add_u32-2.ensures.value,
+      c.shifts0.ensures,
+      c.wrapping_add_u32.ensures.value,
+      c.shifts1.ensures,
+    )
+    (lanes_next a.w.now m a.p h.0 h.1 known)

@@ -1,0 +1,9 @@
+-- Four bytes as a number: word_at.
+use Rattle.std.proofs.Common.{◌∙◌}
+use Rattle.sha256_block.proofs.Compression.{word_at}
+use Rattle.sha256_block.proofs.word.word_at.Goals as goal
+
+pub returns : goal.returns
+returns c =
+    let a = c.args in
+    c.joined.ensures ∙ word_at a.s.now a.at
