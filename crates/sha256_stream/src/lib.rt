@@ -19,7 +19,7 @@ const LENGTH_AT: usize = 56;
 const MOST_WITH_LENGTH: usize = 55;
 
 // Plain data. `total` counts the bytes, modulo 2^64; the last total % 64 of them stand at the start of `pending`.
-#[derive(Drop)]
+#[derive(Clone, Copy)]
 pub struct Hash {
     pub chain: State,
     pub pending: [u8; 64],
