@@ -11,7 +11,7 @@ pub mod mac;
 const MOST: usize = 16_777_216;
 
 // Row 0 and the digest; or row 27 and 32 zero bytes.
-#[derive(Drop)]
+#[derive(Clone, Copy)]
 pub struct Digest {
     pub row: u32,
     pub bytes: [u8; 32],

@@ -6,7 +6,7 @@ ghost use Rattle.digest.specs.Mac.{mac_started, mac_absorbed, mac_finished};
 use sha256_stream::Hash;
 
 // Plain data: `inner` has taken the key with ipad and then the message, `outer` the key with opad.
-#[derive(Drop)]
+#[derive(Clone, Copy)]
 pub struct Mac {
     pub inner: Hash,
     pub outer: Hash,
@@ -14,7 +14,7 @@ pub struct Mac {
 
 // The key as a block: hashed first if it is longer, and filled up with zeros.
 fn key_block(key: &[u8]) -> [u8; 64]
-    ensures { result ≡ Rfc.keyBlock key.now }
+    ensures { result ≡ Rfc.key_block key.now }
 {
     let mut block = [0u8; 64];
     if key.len() <= 64 {
