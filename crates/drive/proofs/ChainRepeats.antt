@@ -6,9 +6,9 @@ use lib.ListN.{drop, get_or, length, length-append}
 use Rattle.rules.specs.Demands as rules
 use Rattle.rules.specs.Demands.{answer, State}
 use Rattle.rules.specs.Gate.{Call}
-use Rattle.rules.specs.TwoHeads as rules·heads
+use Rattle.rules.specs.TwoHeads as rules_heads
 use Rattle.rules.specs.TwoHeads.{Share}
-use Rattle.rules.proofs.TwoHeads as rules·proofs
+use Rattle.rules.proofs.TwoHeads as rules_proofs
 use Rattle.drive.specs.Chain.{after, Chain, CallMade, DriveState, viewed}
 use Rattle.drive.specs.ChainRepeats.{AllOfOnlyRepeats, OnlyRepeats}
 use Rattle.drive.proofs.Calls.{calls_of, chain_after, chain_rest, formatted, row_met}
@@ -45,7 +45,7 @@ split (c ∷ l) (y ∷ front) between x e =
 
 module _ (s : DriveState) (calls : List CallMade) (k : Chain s calls)
     (t : (before : List Call) (c : Call) → (answer (rules.after (viewed s) before) c).row ≡ 12
-    → rules·heads.Repeats (viewed s) before c) where
+    → rules_heads.Repeats (viewed s) before c) where
   -- the row of a call that stands behind others
   answered : (before later : List CallMade) (c : CallMade) → Chain s (before ++ (c ∷ later))
       → (answer (rules.after (viewed s) (calls_of before)) c.call).row ≡ c.answer.row
@@ -75,5 +75,5 @@ pub only_repeats : AllOfOnlyRepeats
 only_repeats medium F master key r zeroed calls made =
     only (record { drive = r.drive; medium = zeroed }) calls made.chain
     (subst (λ (u : State). (before : List Call) (c : Call) → (answer (rules.after u before) c).row ≡ 12
-    → rules·heads.Repeats u before c) (formatted medium F master key r zeroed made.format)
-    (rules·proofs.only_repeats medium F master key))
+    → rules_heads.Repeats u before c) (formatted medium F master key r zeroed made.format)
+    (rules_proofs.only_repeats medium F master key))

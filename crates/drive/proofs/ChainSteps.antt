@@ -5,9 +5,9 @@ use lib.ListN.{length, length-map}
 use Rattle.rules.specs.declared.Object.{Object}
 use Rattle.rules.specs.Demands as rules
 use Rattle.rules.specs.Demands.{Has, State}
-use Rattle.rules.specs.Drive as rules·drive
+use Rattle.rules.specs.Drive as rules_drive
 use Rattle.rules.specs.Steps.{NewExtent, OnStep}
-use Rattle.rules.proofs.Steps as rules·proofs
+use Rattle.rules.proofs.Steps as rules_proofs
 use Rattle.state.specs.Table.{partition_view}
 use Rattle.keyring.specs.Keys.{partition_count}
 use Rattle.drive.specs.declared.Drive.{Drive}
@@ -25,10 +25,10 @@ four d = length-map (tables_in partition_count d.tables) partition_view ∙ tabl
 pub places : AllOfPlaces
 unfolding view
 places s c m =
-    let t = rules·proofs.places (view s.drive) s.medium c.call (four s.drive) in
+    let t = rules_proofs.places (view s.drive) s.medium c.call (four s.drive) in
     record {
       refused = λ e. t.refused (sym m.row ∙ e);
-      granted = λ number size e o. subst (λ (d : rules·drive.Drive). NewExtent (view s.drive) d c.call number size) (sym m.drive)
+      granted = λ number size e o. subst (λ (d : rules_drive.Drive). NewExtent (view s.drive) d c.call number size) (sym m.drive)
           (t.granted number size (sym m.row ∙ e) o);
     }
 
@@ -36,7 +36,7 @@ pub on_steps : AllOfOnSteps
 on_steps medium F master key r zeroed calls made before later e p a k =
     subst (λ (u : State). (p : ℕ) (a : Object) → Has (rules.after u (calls_of before)) p a → OnStep a)
     (formatted medium F master key r zeroed made.format)
-    (rules·proofs.on_steps medium F master key (calls_of before)) p a
+    (rules_proofs.on_steps medium F master key (calls_of before)) p a
     (subst (λ (u : State). Has u p a) (sym (chain_after s before later (subst (Chain s) e made.chain))) k)
   where
     s : DriveState

@@ -6,13 +6,13 @@ use Prim.Native.Nat.{ℕ}
 use Rattle.rules.specs.Demands.{MarkAndOutlived}
 use Rattle.rules.specs.Drive as rules
 use Rattle.rules.specs.Rows.{gate_rows}
-use Rattle.rules.proofs.Answers as rules·proofs
+use Rattle.rules.proofs.Answers as rules_proofs
 use Rattle.drive.specs.View.{view}
 use Rattle.drive.specs.Chain.{AllOfDemand1}
 
 pub demand1 : AllOfDemand1
 demand1 s c m =
-    let t = rules·proofs.demand1 (view s.drive) s.medium c.call in
+    let t = rules_proofs.demand1 (view s.drive) s.medium c.call in
     record {
       row = subst (λ (n : ℕ). (n ≡ 0) ⊎ Memᴰ n gate_rows) (sym m.row) t.row;
       length = λ e. m.length ∙ t.length (λ z. e (m.row ∙ z));

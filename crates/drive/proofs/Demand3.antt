@@ -13,7 +13,7 @@ use Rattle.rules.specs.Drive.{format}
 use Rattle.rules.specs.Gate.{Call}
 use Rattle.rules.specs.Ledger.{bare_scope, bytes_of, clocked, Ledger, ledger, ledger_group, ledger_scope, ledger_start}
 use Rattle.rules.specs.Rows.{bounds}
-use Rattle.rules.proofs.Demand as rules·proofs
+use Rattle.rules.proofs.Demand as rules_proofs
 use Rattle.drive.specs.Chain.{after, AllOfDemand3, ledger_after_calls, Chain, Demand3, CallMade, Granted, DriveState, viewed}
 use Rattle.drive.proofs.Calls.{calls_of, chain_after, chain-fed, chain_rest, formatted, row_met, space_met}
 
@@ -84,4 +84,4 @@ demand3 medium F master key r zeroed calls made =
     demand (length medium) (record { drive = r.drive; medium = zeroed }) (ledger_start F master key) calls made.chain
     (subst (λ (u : State). rules.Demand3 (length medium) u (ledger_start F master key) (calls_of calls))
     (formatted medium F master key r zeroed made.format)
-    (rules·proofs.demand3 medium F master key (calls_of calls) (sym made.format.row ∙ made.row)))
+    (rules_proofs.demand3 medium F master key (calls_of calls) (sym made.format.row ∙ made.row)))

@@ -15,7 +15,7 @@ use Rattle.rules.specs.Drive.{refresh, sound}
 use Rattle.rules.specs.declared.Object.{Object}
 use Rattle.rules.specs.Scope.{Scope, drive_scope}
 use Rattle.rules.specs.Rows.{row1, frame_rows, drive_rows, scope_rows, rows}
-use Rattle.rules.specs.Gate as rules·gate
+use Rattle.rules.specs.Gate as rules_gate
 use Rattle.rules.specs.Gate.{Call, gate, granted, refused, after_refusal, whole_answer}
 use Rattle.rules.proofs.Answers.{gate-granted, gate-refused, ready_left}
 use Rattle.rules.proofs.Keeps.{gate-sound}
@@ -114,22 +114,22 @@ drive_not_1 d m x space e = go (first_row (drive_rows d m x space) is 0) e
     go false k = eqb-false (first_row (drive_rows d m x space)) 1 (row_isnt 1 (drive_rows d m x space) refl refl) k
 
 -- ---- a return of the code that is the rules' answer a meets the promise
-pub meets : (d : Drive) (m : List ℕ) (c : Call) (r : Answer) (after replied : List ℕ) (a : rules·gate.Answer rules.Drive)
+pub meets : (d : Drive) (m : List ℕ) (c : Call) (r : Answer) (after replied : List ℕ) (a : rules_gate.Answer rules.Drive)
     → gate (view d) m c ≡ a → r.row ≡ a.row → r.length ≡ a.length → view r.drive ≡ a.drive
     → (r.row ≡ 1 → r.drive ≡ d)
     → ((r.row ≡ 0 → ⊥) → (r.drive.keys ≡ d.keys) × (r.drive.tables ≡ d.tables))
     → after ≡ a.medium → replied ≡ a.space → GateMet d m c r after replied
 meets d m c r after replied a g row length drive unchanged left medium space = record {
-  row = row ∙ sym (ap (λ (b : rules·gate.Answer rules.Drive). b.row) g);
-  length = length ∙ sym (ap (λ (b : rules·gate.Answer rules.Drive). b.length) g);
+  row = row ∙ sym (ap (λ (b : rules_gate.Answer rules.Drive). b.row) g);
+  length = length ∙ sym (ap (λ (b : rules_gate.Answer rules.Drive). b.length) g);
   drive = whole;
   unchanged = unchanged;
   keys = λ z. (left z).0;
   tables = λ z. (left z).1;
-  medium = medium ∙ sym (ap (λ (b : rules·gate.Answer rules.Drive). b.medium) g);
-  space = space ∙ sym (ap (λ (b : rules·gate.Answer rules.Drive). b.space) g);
+  medium = medium ∙ sym (ap (λ (b : rules_gate.Answer rules.Drive). b.medium) g);
+  space = space ∙ sym (ap (λ (b : rules_gate.Answer rules.Drive). b.space) g);
   sound = λ h. ap sound whole ∙ gate-sound (view d) m c h;
 }
   where
     whole : view r.drive ≡ (gate (view d) m c).drive
-    whole = drive ∙ sym (ap (λ (b : rules·gate.Answer rules.Drive). b.drive) g)
+    whole = drive ∙ sym (ap (λ (b : rules_gate.Answer rules.Drive). b.drive) g)

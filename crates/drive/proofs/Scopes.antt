@@ -31,7 +31,7 @@ use Rattle.rules.specs.Drive.{
 use Rattle.rules.specs.Scope.{Scope, drive_scope, drive_with_scope}
 use Rattle.rules.specs.Operations.{perform}
 use Rattle.rules.specs.Rows.{row1, row12, drive_rows}
-use Rattle.rules.specs.Gate as rules·gate
+use Rattle.rules.specs.Gate as rules_gate
 use Rattle.rules.specs.Gate.{Call, gate, whole_answer}
 use Rattle.rules.proofs.Keeps.{refresh-sound, small_of, tables_of_lem, memories_of_lem}
 use Rattle.rules.proofs.Sound.{at_sound}
@@ -223,7 +223,7 @@ module _ (o : Opened) where
     abbrev call : Call
     call = call_of o.frame o.clock space
 
-    abbrev a : rules·gate.Answer (Scope Object)
+    abbrev a : rules_gate.Answer (Scope Object)
     a = scope_answer scope m x space
 
     gate_is : gate (view o.lent) m call ≡ whole_answer x.cred (view d) a

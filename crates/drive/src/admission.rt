@@ -5,7 +5,7 @@ ghost use Rattle.lemmas.specs.Lists.{part, same};
 ghost use Rattle.rules.specs.declared.Entry.{Entry};
 ghost use Rattle.digest.specs.Hmac.{hmac};
 ghost use Rattle.digest.specs.Keyed.{Keyed};
-ghost use Rattle.rules.specs.Drive.{largest_medium, quarter as Drive·quarter};
+ghost use Rattle.rules.specs.Drive.{largest_medium, quarter as drive_quarter};
 ghost use Rattle.rules.specs.Frame.{fields, covered, memory_index, target_of};
 ghost use Rattle.rules.specs.Rows.{row31};
 ghost use Rattle.wire.specs.Parse.{numbers_of};
@@ -90,8 +90,8 @@ fn group_row(
     request: ParsedRequest,
 ) -> u32
     requires { (size ≤ largest_medium) × (c.partition < partition_count)
-        × (c.partition * Drive·quarter size + found.object.start + found.object.size ≤ length medium.now) }
-    ensures { result ≡ list_row (part medium.now (c.partition * Drive·quarter size + found.object.start) found.object.size)
+        × (c.partition * drive_quarter size + found.object.start + found.object.size ≤ length medium.now) }
+    ensures { result ≡ list_row (part medium.now (c.partition * drive_quarter size + found.object.start) found.object.size)
         (numbers_of request) }
 {
     let quarter = (size / 4) as u32;

@@ -2,7 +2,7 @@
 ghost use Rattle.std.specs.Prelude.{◌≡◌, true, ◌&&◌, map, ◌*◌, max, leb, length};
 ghost use Rattle.lemmas.specs.Lists.{every};
 ghost use Rattle.lemmas.specs.Tests.{◌is◌};
-ghost use Rattle.rules.specs.Drive.{largest_medium, quarter as quarterOf, sound_partition};
+ghost use Rattle.rules.specs.Drive.{largest_medium, quarter as quarter_of, sound_partition};
 ghost use Rattle.keyring.specs.Keys.{partition_count};
 ghost use Rattle.memory.specs.Memory.{memory_count};
 ghost use Rattle.state.specs.Table.{table_size, partition_view};
@@ -47,7 +47,7 @@ fn short_memories(lengths: &[usize]) -> bool
 // Whether row 1 does not apply: of M, the tables and the memories' lengths of a record, and a medium of n bytes.
 pub fn passes_row1(size: usize, tables: &[u32], lengths: &[usize], n: usize) -> bool
     requires { (length tables.now ≡ partition_count * table_size) × (length lengths.now ≡ memory_count) }
-    ensures { (result ≡ (leb size largest_medium && every (sound_partition (quarterOf size)) (map partition_view (tables_in partition_count tables.now))
+    ensures { (result ≡ (leb size largest_medium && every (sound_partition (quarter_of size)) (map partition_view (tables_in partition_count tables.now))
         && every entries_fit lengths.now && n is size))
         × (result ≡ true → every objects_fit (tables_in partition_count tables.now) ≡ true) }
 {

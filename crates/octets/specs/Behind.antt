@@ -1,6 +1,6 @@
 -- Bytes put behind others in a lent slice, where they fit.
 use Rattle.std.specs.Prelude.{◌≡◌, List, ◌++◌, ℕ, ◌+◌, ◌≤◌, length, take, drop}
-use Rattle.std.proofs.Common.{sym, ap, ◌∙◌, append_assoc, arith, length-append, take_at, length-take-le, le-leb}
+use Rattle.std.proofs.Common.{ap, ◌∙◌, append_assoc, arith, length-append, take_at, length-take-le, le-leb}
 use Rattle.lemmas.specs.Lists.{splice}
 use Rattle.octets.specs.Numbers.{bytes_put}
 

@@ -8,14 +8,14 @@ use lib.ListN.{length, take}
 use Rattle.lemmas.specs.RowTable.{first_row, line}
 use Rattle.sha256_block.specs.PaddingLaws.{padded_message}
 use Rattle.rules.specs.Client.{build, check, Checked, frame_of, issue}
-use Rattle.rules.specs.Demands as rules·demands
+use Rattle.rules.specs.Demands as rules_demands
 use Rattle.rules.specs.Drive.{refresh}
 use Rattle.rules.specs.Frame.{credential_at, credential_bytes, CredentialFits, credential_size, fields, request_at}
 use Rattle.rules.specs.Gate.{gate}
 use Rattle.rules.specs.Operations.{credential_key, result_length}
 use Rattle.rules.specs.Rows.{group_bytes, row1, row7, row8, row9, scope_rows}
 use Rattle.rules.specs.Scope.{drive_scope}
-use Rattle.rules.proofs.Demand2 as rules·proofs
+use Rattle.rules.proofs.Demand2 as rules_proofs
 use Rattle.drive.specs.Chain.{CallMade, DriveState}
 use Rattle.drive.specs.View.{view}
 use Rattle.client.proofs.RoundTrip.{built-accepted, built-frame, built-parsed}
@@ -39,8 +39,8 @@ module _ (i : IssueMade) (m : IssueKept i) (z : i.answer.row ≡ 0) (fit : Crede
   taken : (issue i.credential i.slot_key i.space).row ≡ 0
   taken = sym m.row ∙ z
 
-  back : rules·demands.IssuesBack i.credential i.slot_key i.space
-  back = (rules·proofs.demand2).issued i.credential i.slot_key i.space fit taken
+  back : rules_demands.IssuesBack i.credential i.slot_key i.space
+  back = (rules_proofs.demand2).issued i.credential i.slot_key i.space fit taken
 
   pub issued-bytes : issued_bytes i ≡ credential_bytes i.credential
   issued-bytes = ap (take credential_size) m.space ∙ back.bytes
@@ -67,9 +67,9 @@ module _ (i : IssueMade) (m : IssueKept i) (z : i.answer.row ≡ 0) (fit : Crede
     same_key_lem : b.key ≡ key
     same_key_lem = from.key ∙ m.key
 
-    authentic : rules·demands.Authentic i.credential i.slot_key frame
+    authentic : rules_demands.Authentic i.credential i.slot_key frame
     authentic =
-        (rules·proofs.demand2).authentic i.credential i.slot_key i.space b.request b.payload b.space fit taken
+        (rules_proofs.demand2).authentic i.credential i.slot_key i.space b.request b.payload b.space fit taken
         (subst₂ (λ (a k : List ℕ). (build a b.request b.payload k b.space).row ≡ 0) same_credential same_key_lem (sym n.row ∙ y))
 
     frame_is : built_bytes b ≡ frame
@@ -101,7 +101,7 @@ read_as_built b n y = record {
   level = back.level;
 }
   where
-    back : rules·demands.ReadsBack b.credential b.request b.payload b.key b.space
+    back : rules_demands.ReadsBack b.credential b.request b.payload b.key b.space
     back = reads_back b.credential b.request b.payload b.key b.space
         (built-accepted b.credential b.request b.payload b.key b.space b.answer b.after n y)
 
@@ -117,7 +117,7 @@ part-start k m =
 pub accepted : (b : BuildMade) (s : DriveState) (c : CallMade) (k : CheckMade) → Replied b s c k → Accepted s c k
 accepted b s c k h =
     let frame_is = h.frame ∙ built-frame b.credential b.request b.payload b.key b.space b.answer b.after h.built h.row in
-    let back = (rules·proofs.demand2).replied (view s.drive) s.medium c.call b.credential b.request b.payload b.key b.space
+    let back = (rules_proofs.demand2).replied (view s.drive) s.medium c.call b.credential b.request b.payload b.key b.space
     (sym h.built.row ∙ h.row) frame_is (sym h.call.row ∙ h.granted) h.key in
     let reply : k.reply.now ≡ take (gate (view s.drive) s.medium c.call).length (gate (view s.drive) s.medium c.call).space
     = h.reply ∙ (λ j. take (h.call.length j) (h.call.space j)) in
@@ -139,7 +139,7 @@ demand2 = record {
   padding = padded_message;
   part = λ k m. m.start ∙ ap (place_after k.reply) (sym (part-start k m));
   granted = λ s c m.
-      let e = ((rules·proofs.demand2).exact (view s.drive) s.medium c.call).grants in
+      let e = ((rules_proofs.demand2).exact (view s.drive) s.medium c.call).grants in
       (λ g. e.0 (sym m.row ∙ g), λ h. m.row ∙ e.1 h);
   issued = issues;
   passes = λ i b m z fit n y from. passes i m z fit b n y from;

@@ -4,9 +4,9 @@
 use Rattle.std.specs.Prelude.{List, ◌-◌, ℕ, length, take}
 use Rattle.rules.specs.declared.Credential.{Credential}
 use Rattle.rules.specs.Client as rules
-use Rattle.rules.specs.Drive as rules·drive
+use Rattle.rules.specs.Drive as rules_drive
 use Rattle.rules.specs.Frame.{credential_size}
-use Rattle.rules.specs.Gate as rules·gate
+use Rattle.rules.specs.Gate as rules_gate
 use Rattle.drive.specs.declared.Formatted.{Formatted}
 use Rattle.drive.specs.Chain.{CallMade}
 use Rattle.drive.specs.Met.{FormatMet}
@@ -28,11 +28,11 @@ pub record FormatMade : Type 0 where
 abbrev pub FormatKept : FormatMade → Type 0
 FormatKept f = FormatMet f.medium f.first f.master f.drive f.answer f.after
 
-abbrev pub format_gave : FormatMade → rules·drive.Formatted
+abbrev pub format_gave : FormatMade → rules_drive.Formatted
 format_gave f = record { row = f.answer.row; drive = view f.answer.drive; medium = f.after }
 
 -- ---- the gate
-abbrev pub gate_gave : CallMade → rules·gate.Answer rules·drive.Drive
+abbrev pub gate_gave : CallMade → rules_gate.Answer rules_drive.Drive
 gate_gave c = record {
   row = c.answer.row;
   length = c.answer.length;

@@ -7,10 +7,10 @@ use Rattle.sha256_block.specs.Padding.{PaddedMessage}
 use Rattle.digest.specs.Hmac.{hmac}
 use Rattle.rules.specs.declared.Object.{Object}
 use Rattle.rules.specs.Client as rules
-use Rattle.rules.specs.Drive as rules·drive
+use Rattle.rules.specs.Drive as rules_drive
 use Rattle.rules.specs.Drive.{Keys, refresh}
 use Rattle.rules.specs.Frame.{covered, credential_at, CredentialFits, credential_length, fields, operation_of, request_at, starts_behind}
-use Rattle.rules.specs.Gate as rules·gate
+use Rattle.rules.specs.Gate as rules_gate
 use Rattle.rules.specs.Operations.{credential_key, head_size, key_in, perform, result_length}
 use Rattle.rules.specs.Needs.{default_need}
 use Rattle.rules.specs.Rows.{group_bytes, low_level, row1, row7, row8, row9, rows, scope_rows}
@@ -121,9 +121,9 @@ pub record AllOfDemand2 : Type 0 where
   -- "Every grant, refusal, reply and built frame is the one that document 01, FIPS 180-4 and RFC 2104 give":
   -- all that each call gives
   pub format : (f : FormatMade) → FormatKept f
-      → format_gave f ≡ rules·drive.format f.medium f.first f.master f.drive
+      → format_gave f ≡ rules_drive.format f.medium f.first f.master f.drive
   pub gate : (s : DriveState) (c : CallMade) → CallMet s c
-      → gate_gave c ≡ rules·gate.gate (view s.drive) s.medium c.call
+      → gate_gave c ≡ rules_gate.gate (view s.drive) s.medium c.call
   pub issue : (i : IssueMade) → IssueKept i → issue_gave i ≡ rules.issue i.credential i.slot_key i.space
   pub build : (b : BuildMade) → BuildKept b
       → build_gave b ≡ rules.build b.credential b.request b.payload b.key b.space

@@ -40,6 +40,7 @@ use Rattle.rules.specs.Ledger.{
   bare_scope,
   bytes_in,
   clocked,
+  feed,
   LedgerObject,
   Ledger,
   ledger,
@@ -69,7 +70,7 @@ use Rattle.rules.proofs.Sound.{
   SoundTables,
   unused_sound,
 }
-use Rattle.rules.proofs.Step.{clear_of_lem, entries, fresh_inv, Invariant, inv_sound, row_zero, row_of, sees_is, step_inv}
+use Rattle.rules.proofs.Step.{clear_of_lem, entries, fed_of, fresh_inv, Invariant, inv_sound, row_zero, row_of, sees_is, step_inv}
 
 -- ---- format
 empty : {A : Type 0} → List A → Bool
@@ -138,13 +139,14 @@ run_inv : {M : ℕ} {s : State} {l : Ledger} → Invariant M s l → (cs : List 
     → Invariant M (after s cs) (ledger M l (fed s cs))
 unfolding after ledger fed
 run_inv v [] = v
-run_inv v (c ∷ cs) = run_inv (step_inv v c) cs
+run_inv {M = M} {s = s} {l = l} v (c ∷ cs) = run_inv {M = M} {s = step s c} {l = feed M l (fed_of s c)} (step_inv v c) cs
 
 run_known : {M : ℕ} {s : State} {l : Ledger} → Invariant M s l → (cs : List Call) (n : Nonce) → Known n s.drive
     → Known n (after s cs).drive
 unfolding after
 run_known v [] n k = k
-run_known v (c ∷ cs) n k = run_known (step_inv v c) cs n (step_known v c n k)
+run_known {M = M} {s = s} {l = l} v (c ∷ cs) n k =
+    run_known {M = M} {s = step s c} {l = feed M l (fed_of s c)} (step_inv v c) cs n (step_known v c n k)
 
 after_append : (s : State) (a : List Call) (c : Call) (b : List Call)
     → after s (a ++ (c ∷ b)) ≡ after (step (after s a) c) b

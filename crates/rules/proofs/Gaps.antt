@@ -37,6 +37,7 @@ nearer-start i end a h = rw (le-leb i a.start h) (omega arith)
 next_start : (q : ℕ) (objects : List Object) (i : ℕ) (a : Object) → Memᴰ a objects → i ≤ a.start
     → next q objects i ≤ a.start
 unfolding next
+next_start q [] i a k h = elim k [ ]
 next_start q (x ∷ xs) i a (Memᴰ.head e) h =
     subst (λ (y : Object). next (nearer i q x) xs i ≤ y.start) (sym e)
     (omega (arith, next_le (nearer i q x) xs i, nearer-start i q x (subst (λ (y : Object). i ≤ y.start) e h)))

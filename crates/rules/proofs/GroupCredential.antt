@@ -140,6 +140,7 @@ only_lists b bytes e = (
 -- a number in a list is from 1
 from_1 : (last n : ℕ) (ns : List ℕ) → rising last ns ≡ true → Memᴰ n ns → last < n
 unfolding rising
+from_1 last n [] e m = elim m [ ]
 from_1 last n (k ∷ ks) e (Memᴰ.head q) = subst (λ (i : ℕ). last < i) (sym q) (ltb-true last k (and_l (k over last) (rising k ks) e))
 from_1 last n (k ∷ ks) e (Memᴰ.tail m) =
     omega (

@@ -65,6 +65,7 @@ versions_from_run M l (c ∷ cs) later w p n k b =
 pub renewed_run : (M : ℕ) (l : Ledger) (between later : List Fed) (e : Fed) (v p n : ℕ) → FedByGate M l (between ++ later)
     → Memᴰ e between → Renews p n e → v ≤ last_of l p → VersionsFrom (v + 1) p n (ledger M l between)
 unfolding FedByGate ledger
+renewed_run M l [] later e v p n k m r h = elim m [ ]
 renewed_run M l (c ∷ cs) later e v p n k (Memᴰ.head q) r h =
     versions_from_run M (feed M l c) cs later (v + 1) p n k.1
     (renew_step M k.0 v p n (subst (Renews p n) q r) h)
@@ -106,6 +107,7 @@ there_versions_from l p n v s e = record {
 same_run : (M : ℕ) (l : Ledger) (between later : List Fed) (d e : Fed) (p n v u : ℕ)
     → FedByGate M l (between ++ (d ∷ later)) → VersionsFrom v p n l → Memᴰ e between → Uses p n u e → Uses p n v d → u ≡ v
 unfolding FedByGate ledger
+same_run M l [] later d e p n v u k b m ue ud = elim m [ ]
 same_run M l (c ∷ cs) later d e p n v u k b (Memᴰ.head q) ue ud =
     let there : version_of l p n ≡ some u = used M l c (cs ++ (d ∷ later)) p n u k (subst (Uses p n u) q ue) in
     let on : VersionsFrom u p n (ledger M l (c ∷ cs)) =

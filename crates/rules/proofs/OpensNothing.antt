@@ -3,7 +3,7 @@
 use mathlib.Core.Path.{◌≡◌, ap, refl, subst}
 use mathlib.Core.Bool.{Bool, cond, false, true}
 use mathlib.Core.Option.{some}
-use mathlib.Core.List.{◌++◌, ◌∷◌, List, Memᴰ}
+use mathlib.Core.List.{[], ◌++◌, ◌∷◌, List, Memᴰ}
 use Prim.Native.Nat.{◌+◌, ◌<◌, ◌≤◌, ℕ}
 use native.Mathlib.Omega.{arith}
 use Rattle.lemmas.specs.Tests.{◌is◌}
@@ -46,15 +46,16 @@ mark_step M l c = go (c.row is 0)
     go false = refl
 
 -- from a call on whose mark is over the expiry of d's credential, d is refused
-run_out_lem : (M : ℕ) (l : Ledger) (c d : Fed) (later : List Fed) → FedByGate M l (c ∷ later) → Memᴰ d (c ∷ later)
+run_out_lem : (M : ℕ) (d : Fed) (l : Ledger) (c : Fed) (later : List Fed) → FedByGate M l (c ∷ later) → Memᴰ d (c ∷ later)
     → (fed_fields d).cred.expiry < (clocked c.clock l).high_water → d.row ≡ 0 → ⊥
 unfolding FedByGate clocked
-run_out_lem M l c d later k (Memᴰ.head q) h g =
+run_out_lem M d l c later k (Memᴰ.head q) h g =
     let t = k.0.in_time (subst (λ (e : Fed). e.row ≡ 0) q g) in
     let x : (fed_fields d).cred.expiry ≡ (fed_fields c).cred.expiry = ap (λ (e : Fed). (fed_fields e).cred.expiry) q in
     omega (arith, t, h, x)
-run_out_lem M l c d (e ∷ later) k (Memᴰ.tail m) h g =
-    run_out_lem M (feed M l c) e d later k.1 m (omega (arith, h, mark_step M l c)) g
+run_out_lem M d l c [] k (Memᴰ.tail m) h g = elim m [ ]
+run_out_lem M d l c (e ∷ later) k (Memᴰ.tail m) h g =
+    run_out_lem M d (feed M l c) e later k.1 m (omega (arith, h, mark_step M l c)) g
 
 -- ---- every list
 module _ (M : ℕ) (l : Ledger) (calls : List Fed) (k : FedByGate M l calls) where
@@ -78,7 +79,7 @@ module _ (M : ℕ) (l : Ledger) (calls : List Fed) (k : FedByGate M l calls) whe
         let f = t c m r in
         old-refused before between later f.0 d p n v q e f.1.0 f.1.1 u g;
     run_out = λ before later c d q m h g.
-        run_out_lem M (ledger M l before) c d later (rest M l calls k before (c ∷ later) q) m (omega (arith, h)) g;
+        run_out_lem M d (ledger M l before) c later (rest M l calls k before (c ∷ later) q) m (omega (arith, h)) g;
   }
 
 pub opens-nothing : OfEveryList OpensNothing

@@ -119,6 +119,7 @@ best_held [] held g e =
   where
     only : (h : Gap) → Memᴰ h (held ∷ []) → NoWorse held h
     only h (Memᴰ.head f) = no_worse_self held h f
+    only h (Memᴰ.tail k) = elim k [ ]
 best_held (x ∷ xs) held g e = go (better x held) refl (best_held xs (cond (better x held) x held) g e)
   where
     first : (b : Bool) → Memᴰ g (cond b x held ∷ xs) → Memᴰ g (held ∷ (x ∷ xs))
@@ -154,6 +155,7 @@ best_some (x ∷ xs) g e = best_held xs x g e
 
 best_none : (l : List Gap) → missing (best_of none l) ≡ true → (g : Gap) → Memᴰ g l → ⊥
 unfolding best_of
+best_none [] e g k = elim k [ ]
 best_none (x ∷ xs) e g k = true≢false (sym e ∙ held_some xs x)
 
 -- ---- the placing rule

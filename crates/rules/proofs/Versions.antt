@@ -11,7 +11,7 @@ use lib.ListN.{length}
 use borrow.Author.Tests.{eq-eqb, eqb-true}
 use Rattle.lemmas.specs.Lists.{find, splice}
 use Rattle.lemmas.specs.Tests.{◌is◌, and_l, and_r, bool_cases, both}
-use Rattle.rules.specs.Demands.{fed, State}
+use Rattle.rules.specs.Demands.{fed, State, step}
 use Rattle.rules.specs.Drive.{Partition, partition_at, empty_partition}
 use Rattle.rules.specs.declared.Operation.{Operation}
 use Rattle.rules.specs.declared.Operation.TheVariants.{Write}
@@ -248,7 +248,7 @@ run-fed {M} {s} {l} v g (c ∷ cs) =
       passes = λ r. passed v c (row_zero v c r);
       in_time = λ r. in_time_lem v c (row_zero v c r);
     } in
-    (f, run-fed (step_inv v c) (given_step M f) cs)
+    (f, run-fed {M = M} {s = step s c} {l = feed M l (fed_of s c)} (step_inv v c) (given_step M f) cs)
 
 -- from a format on
 unused_given : (F n v : ℕ) → version_in (empty_partition F) n ≡ some v → v ≤ F

@@ -1,13 +1,11 @@
 -- `octets::layout::read` meets its contract. The loop's invariant: the numbers passed, and what is left to read, are what is to be read.
-use mathlib.Core.Path.{◌≡◌, refl, sym, ◌∙◌}
-use mathlib.Core.List.{List, ◌++◌}
-use Prim.Native.Nat.{ℕ, ◌+◌, ◌-◌, ◌<◌}
+use mathlib.Core.Path.{refl, sym, ◌∙◌}
+use mathlib.Core.List.{List}
+use Prim.Native.Nat.{ℕ, ◌<◌}
 use native.Mathlib.Omega.{arith}
-use lib.ListN.{length, take, drop, length-set}
-use borrow.Author.Rules.{rules}
+use lib.ListN.{length, length-set}
 use borrow.Author.Tests.{not-false, not-true}
-use Rattle.lemmas.specs.BigEndian.{read_all}
-use Rattle.octets.proofs.FieldLaws.{Ahead, ahead_start, ahead_next, field_fits, read_step, read-end}
+use Rattle.octets.proofs.FieldLaws.{ahead_start, ahead_next, field_fits, read_step, read-end}
 use Rattle.octets.proofs.layout.read.Goals as goal
 
 pub returns-then-not-fields_fit : goal.returns-then-not-fields_fit
@@ -46,4 +44,6 @@ returns c =
 
 pub overflow_add-place : goal.overflow_add-place
 overflow_add-place c =
-    omega (arith, (number_at-requires c).0)
+    let l = c.loop-i in
+    let a = c.args in
+    omega (arith, (field_fits a.widths.now l.i l.place (length a.s.now) l.invariant.0 (omega arith)).0)

@@ -1,13 +1,10 @@
 -- `octets::layout::read` meets its contract. The loop's invariant: the numbers passed, and what is left to read, are what is to be read.
-use mathlib.Core.Path.{◌≡◌, refl, sym, ◌∙◌}
-use mathlib.Core.List.{List, ◌++◌}
-use Prim.Native.Nat.{ℕ, ◌+◌, ◌-◌, ◌<◌}
-use native.Mathlib.Omega.{arith}
-use lib.ListN.{length, take, drop, length-set}
-use borrow.Author.Rules.{rules}
-use borrow.Author.Tests.{not-false, not-true}
+use mathlib.Core.Path.{◌≡◌}
+use mathlib.Core.List.{◌++◌}
+use Prim.Native.Nat.{◌-◌}
+use lib.ListN.{length, take, drop}
 use Rattle.lemmas.specs.BigEndian.{read_all}
-use Rattle.octets.proofs.FieldLaws.{Ahead, ahead_start, ahead_next, field_fits, read_step, read-end}
+use Rattle.octets.proofs.FieldLaws.{Ahead}
 use Rattle.octets.proofs.layout.read.Given as goal
 
 abbrev pub invariant-loop-i : goal.invariant-loop-i
