@@ -9,14 +9,14 @@ pub use reply_check::check;
 mod rows;
 
 // Row 0 and the credential key; or the row and 32 zero bytes.
-#[derive(Drop)]
+#[derive(Clone, Copy)]
 pub struct Issued {
     pub row: u32,
     pub key: [u8; rules::KEY_SIZE],
 }
 
 // Row 0 and the frame's length; or the row and length 0.
-#[derive(Drop)]
+#[derive(Clone, Copy)]
 pub struct Built {
     pub row: u32,
     pub length: usize,

@@ -5,7 +5,8 @@
 ghost use Rattle.std.specs.Prelude.{◌≡◌, ◌<◌, ◌≤◌};
 ghost use Rattle.digest_vectors.specs.Hex.{hex_digit, hex, count};
 
-use libc::STDOUT_FILENO;
+use std::io;
+use std::io::{Print, Stdout};
 
 // A number below 16 as a hexadecimal digit.
 fn digit(x: u8) -> u8
@@ -31,28 +32,28 @@ fn hex_of(d: [u8; 32]) -> [u8; 64]
 }
 
 // A line: what it is of, and the digest.
-fn line(label: &[u8], d: [u8; 32]) {
+fn line(out: Stdout, label: &[u8], d: [u8; 32]) -> io::Result<()> {
     let text = hex_of(d);
-    io::write_all(STDOUT_FILENO, label);
-    io::write_all(STDOUT_FILENO, b" ");
-    io::write_all(STDOUT_FILENO, &text);
-    io::write_all(STDOUT_FILENO, b"\n");
+    out.write_all(label)?;
+    out.write_all(b" ")?;
+    out.write_all(&text)?;
+    out.write_all(b"\n")
 }
 
-fn sha(label: &[u8], message: &[u8]) {
+fn sha(out: Stdout, label: &[u8], message: &[u8]) -> io::Result<()> {
     let r = digest::sha256(message);
     let d = r.bytes;
-    line(label, d);
+    line(out, label, d)
 }
 
-fn keyed(label: &[u8], key: &[u8], message: &[u8]) {
+fn keyed(out: Stdout, label: &[u8], key: &[u8], message: &[u8]) -> io::Result<()> {
     let r = digest::hmac(key, message);
     let d = r.bytes;
-    line(label, d);
+    line(out, label, d)
 }
 
 // A million times the letter a, a thousand at a time.
-fn million() {
+fn million(out: Stdout) -> io::Result<()> {
     let part = [97u8; 1000];
     let mut h = sha256_stream::start();
     let mut i: usize = 0;
@@ -61,7 +62,7 @@ fn million() {
         i += 1;
     }
     let d = sha256_stream::finish(h);
-    line(b"sha256 a*1000000", d);
+    line(out, b"sha256 a*1000000", d)
 }
 
 // The bytes 0, 1, 2, ..
@@ -78,93 +79,98 @@ fn counting() -> [u8; 129]
 }
 
 // The examples of FIPS 180-4, and those that NIST gives beside them, by their bytes or as byte * count.
-fn published() {
-    sha(b"sha256 empty", b"");
-    sha(b"sha256 abc", b"abc");
+fn published(out: Stdout) -> io::Result<()> {
+    sha(out, b"sha256 empty", b"")?;
+    sha(out, b"sha256 abc", b"abc")?;
     sha(
+        out,
         b"sha256 448 bits",
         b"abcdbcdecdefdefgefghfghighijhijkijkljklmklmnlmnomnopnopq",
-    );
+    )?;
     sha(
+        out,
         b"sha256 896 bits",
         b"abcdefghbcdefghicdefghijdefghijkefghijklfghijklmghijklmnhijklmnoijklmnopjklmnopqklmnopqrlmnopqrsmnopqrstnopqrstu",
-    );
-    million();
-    sha(b"sha256 bd", &[0xbdu8]);
-    sha(b"sha256 c98c8e55", &[0xc9u8, 0x8c, 0x8e, 0x55]);
-    sha(b"sha256 00*55", &[0u8; 55]);
-    sha(b"sha256 00*56", &[0u8; 56]);
-    sha(b"sha256 00*57", &[0u8; 57]);
-    sha(b"sha256 00*64", &[0u8; 64]);
-    sha(b"sha256 00*1000", &[0u8; 1000]);
-    sha(b"sha256 41*1000", &[0x41u8; 1000]);
-    sha(b"sha256 55*1005", &[0x55u8; 1005]);
+    )?;
+    million(out)?;
+    sha(out, b"sha256 bd", &[0xbdu8])?;
+    sha(out, b"sha256 c98c8e55", &[0xc9u8, 0x8c, 0x8e, 0x55])?;
+    sha(out, b"sha256 00*55", &[0u8; 55])?;
+    sha(out, b"sha256 00*56", &[0u8; 56])?;
+    sha(out, b"sha256 00*57", &[0u8; 57])?;
+    sha(out, b"sha256 00*64", &[0u8; 64])?;
+    sha(out, b"sha256 00*1000", &[0u8; 1000])?;
+    sha(out, b"sha256 41*1000", &[0x41u8; 1000])?;
+    sha(out, b"sha256 55*1005", &[0x55u8; 1005])
 }
 
 // The digest of the bytes 0, 1, .. n - 1.
-fn edge(label: &[u8], n: usize)
+fn edge(out: Stdout, label: &[u8], n: usize) -> io::Result<()>
     requires { n ≤ 129 }
 {
     let b = counting();
-    sha(label, &b[0..n]);
+    sha(out, label, &b[0..n])
 }
 
 // Messages around the end of one block: where the length field still fits, where another block follows, and behind it. These
 // digests, and those around the end of two, are OpenSSL's.
-fn one_block() {
-    edge(b"sha256 0..54", 54);
-    edge(b"sha256 0..55", 55);
-    edge(b"sha256 0..56", 56);
-    edge(b"sha256 0..57", 57);
-    edge(b"sha256 0..58", 58);
-    edge(b"sha256 0..59", 59);
-    edge(b"sha256 0..60", 60);
-    edge(b"sha256 0..61", 61);
-    edge(b"sha256 0..62", 62);
-    edge(b"sha256 0..63", 63);
-    edge(b"sha256 0..64", 64);
-    edge(b"sha256 0..65", 65);
+fn one_block(out: Stdout) -> io::Result<()> {
+    edge(out, b"sha256 0..54", 54)?;
+    edge(out, b"sha256 0..55", 55)?;
+    edge(out, b"sha256 0..56", 56)?;
+    edge(out, b"sha256 0..57", 57)?;
+    edge(out, b"sha256 0..58", 58)?;
+    edge(out, b"sha256 0..59", 59)?;
+    edge(out, b"sha256 0..60", 60)?;
+    edge(out, b"sha256 0..61", 61)?;
+    edge(out, b"sha256 0..62", 62)?;
+    edge(out, b"sha256 0..63", 63)?;
+    edge(out, b"sha256 0..64", 64)?;
+    edge(out, b"sha256 0..65", 65)
 }
 
 // The same around the end of two blocks.
-fn two_blocks() {
-    edge(b"sha256 0..118", 118);
-    edge(b"sha256 0..119", 119);
-    edge(b"sha256 0..120", 120);
-    edge(b"sha256 0..121", 121);
-    edge(b"sha256 0..122", 122);
-    edge(b"sha256 0..123", 123);
-    edge(b"sha256 0..124", 124);
-    edge(b"sha256 0..125", 125);
-    edge(b"sha256 0..126", 126);
-    edge(b"sha256 0..127", 127);
-    edge(b"sha256 0..128", 128);
-    edge(b"sha256 0..129", 129);
+fn two_blocks(out: Stdout) -> io::Result<()> {
+    edge(out, b"sha256 0..118", 118)?;
+    edge(out, b"sha256 0..119", 119)?;
+    edge(out, b"sha256 0..120", 120)?;
+    edge(out, b"sha256 0..121", 121)?;
+    edge(out, b"sha256 0..122", 122)?;
+    edge(out, b"sha256 0..123", 123)?;
+    edge(out, b"sha256 0..124", 124)?;
+    edge(out, b"sha256 0..125", 125)?;
+    edge(out, b"sha256 0..126", 126)?;
+    edge(out, b"sha256 0..127", 127)?;
+    edge(out, b"sha256 0..128", 128)?;
+    edge(out, b"sha256 0..129", 129)
 }
 
 // RFC 4231, section 4. The RFC shows the first 128 bits of case 5 only; here the whole is printed.
-fn rfc4231() {
-    keyed(b"rfc4231 1", &[0x0bu8; 20], b"Hi There");
-    keyed(b"rfc4231 2", b"Jefe", b"what do ya want for nothing?");
-    keyed(b"rfc4231 3", &[0xaau8; 20], &[0xddu8; 50]);
+fn rfc4231(out: Stdout) -> io::Result<()> {
+    keyed(out, b"rfc4231 1", &[0x0bu8; 20], b"Hi There")?;
+    keyed(out, b"rfc4231 2", b"Jefe", b"what do ya want for nothing?")?;
+    keyed(out, b"rfc4231 3", &[0xaau8; 20], &[0xddu8; 50])?;
     let b = counting();
-    keyed(b"rfc4231 4", &b[1..26], &[0xcdu8; 50]);
-    keyed(b"rfc4231 5", &[0x0cu8; 20], b"Test With Truncation");
+    keyed(out, b"rfc4231 4", &b[1..26], &[0xcdu8; 50])?;
+    keyed(out, b"rfc4231 5", &[0x0cu8; 20], b"Test With Truncation")?;
     keyed(
+        out,
         b"rfc4231 6",
         &[0xaau8; 131],
         b"Test Using Larger Than Block-Size Key - Hash Key First",
-    );
+    )?;
     keyed(
+        out,
         b"rfc4231 7",
         &[0xaau8; 131],
         b"This is a test using a larger than block-size key and a larger than block-size data. The key needs to be hashed before being used by the HMAC algorithm.",
-    );
+    )
 }
 
-fn main() {
-    published();
-    one_block();
-    two_blocks();
-    rfc4231();
+fn main(rt: HostRuntime) -> io::Result<()> {
+    let out = rt.stdout();
+    published(out)?;
+    one_block(out)?;
+    two_blocks(out)?;
+    rfc4231(out)
 }

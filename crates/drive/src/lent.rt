@@ -11,7 +11,7 @@ use state::TABLE;
 use wire::Parsed;
 
 // Row 0 and the reply's length, or the row and 0.
-#[derive(Drop)]
+#[derive(Clone, Copy)]
 pub struct Verdict {
     pub row: u32,
     pub length: usize,

@@ -50,7 +50,7 @@ pub struct Formatted {
 
 // Row and reply length; and of a grant the index of its slot's key, and what it puts into its partition's table: the next
 // version, a new extent's start.
-#[derive(Drop)]
+#[derive(Clone, Copy)]
 struct Outcome {
     row: u32,
     length: usize,

@@ -12,6 +12,8 @@ ghost use Rattle.drive_replay.specs.Trace.{head_size, medium_size, buffer_size, 
 
 use drive::{Answer, Drive};
 use rules::Object;
+use std::io;
+use std::io::{Stdin, Stdout};
 use trace::Record;
 
 mod text;
@@ -25,6 +27,9 @@ const MEDIUM_SIZE: usize = 70008;
 
 // A frame, or a reply space.
 const BUFFER_SIZE: usize = 70000;
+
+// The output that is not written yet.
+const OUT_SIZE: usize = 65536;
 
 // A format record; of a call record the bytes before its frame.
 const HEAD_SIZE: usize = 96;
@@ -225,6 +230,7 @@ fn answer(
 
 // The line of a record that had this answer.
 fn put_line(
+    stdout: Stdout,
     r: Record,
     row: u32,
     replied: usize,
@@ -232,16 +238,25 @@ fn put_line(
     reply: &[u8],
     out: &mut [u8],
     at: usize,
-) -> usize
+) -> io::Result<usize>
     requires { Fits r × (length medium.now ≡ medium_size) × (length reply.now ≡ buffer_size) }
 {
     let end = r.size + trace::BEHIND;
     let space = r.space;
-    text::put_line(out, at, row, replied, &reply[..space], &medium[..end])
+    text::put_line(
+        stdout,
+        out,
+        at,
+        row,
+        replied,
+        &reply[..space],
+        &medium[..end],
+    )
 }
 
 // Replays one record and puts its line.
 fn replay(
+    stdout: Stdout,
     t: LoopState,
     r: Record,
     head: &[u8],
@@ -249,40 +264,41 @@ fn replay(
     frame: &[u8],
     reply: &mut [u8],
     out: &mut [u8],
-) -> LoopState
+) -> io::Result<LoopState>
     requires { Fits r × (length head.now ≡ head_size) × (length medium.old ≡ medium_size) × (length frame.now ≡ buffer_size) × (length reply.old ≡ buffer_size) }
 {
     let d = t.drive;
     prepare(r, medium, reply);
     let a = answer(d, r, head, medium, frame, reply);
-    let unwritten = put_line(r, a.row, a.length, medium, reply, out, t.unwritten);
+    let unwritten = put_line(stdout, r, a.row, a.length, medium, reply, out, t.unwritten)?;
     let drive = a.drive;
-    LoopState {
+    Ok(LoopState {
         drive,
         size: r.size,
         unwritten,
-    }
+    })
 }
 
 // Writes what is not written yet, and behind it the line `cut` where the input did not end after a record.
-fn finish(out: &mut [u8], unwritten: usize, kind: u8) {
+fn finish(stdout: Stdout, out: &mut [u8], unwritten: usize, kind: u8) -> io::Result<()> {
     if kind == trace::END {
-        text::flush(out, unwritten);
-        return;
+        return text::flush(stdout, out, unwritten);
     }
-    let n = text::put_text(out, unwritten, b"cut\n");
-    text::flush(out, n);
+    let n = text::put_text(stdout, out, unwritten, b"cut\n")?;
+    text::flush(stdout, out, n)
 }
 
 // Replays the records of the input until it ends.
 fn run(
+    stdin: Stdin,
+    stdout: Stdout,
     drive: Drive,
     head: &mut [u8],
     medium: &mut [u8],
     frame: &mut [u8],
     reply: &mut [u8],
     out: &mut [u8],
-)
+) -> io::Result<()>
     requires { (length head.old ≡ head_size) × (length medium.old ≡ medium_size) × (length frame.old ≡ buffer_size) × (length reply.old ≡ buffer_size) }
 {
     let mut t = LoopState {
@@ -293,27 +309,35 @@ fn run(
     let mut left = RECORD_LIMIT;
     while left > 0 {
         left -= 1;
-        let r = trace::next(t.size, head, frame);
+        let r = trace::next(stdin, t.size, head, frame);
         let d = t.drive;
         let tables = d.tables;
         let kind = kind_of(r.kind, tables, head);
         if kind >= trace::END {
-            finish(out, t.unwritten, kind);
-            return;
+            return finish(stdout, out, t.unwritten, kind);
         }
-        t = replay(t, r, head, medium, frame, reply, out);
+        t = replay(stdout, t, r, head, medium, frame, reply, out)?;
     }
-    finish(out, t.unwritten, trace::CUT);
+    finish(stdout, out, t.unwritten, trace::CUT)
 }
 
 // Until the first record formats it, the drive is the one that a refused format leaves.
-fn main() {
+fn main(rt: HostRuntime) -> io::Result<()> {
     let mut head = head_buffer();
     let mut medium = medium_buffer();
     let mut frame = frame_buffer();
     let mut reply = frame_buffer();
-    let mut out = io::large_buffer();
+    let mut out = [0u8; OUT_SIZE];
     let f = drive::format(&mut medium, 0, &[0u8; 32], &[1u8; 32]);
     let d = f.drive;
-    run(d, &mut head, &mut medium, &mut frame, &mut reply, &mut out);
+    run(
+        rt.stdin(),
+        rt.stdout(),
+        d,
+        &mut head,
+        &mut medium,
+        &mut frame,
+        &mut reply,
+        &mut out,
+    )
 }

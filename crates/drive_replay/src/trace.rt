@@ -2,7 +2,7 @@
 ghost use Rattle.std.specs.Prelude.{◌≡◌, ◌≤◌, length};
 ghost use Rattle.drive_replay.specs.Trace.{head_size, buffer_size, Fits};
 
-use libc::STDIN_FILENO;
+use std::io::Stdin;
 
 // What comes next in the input: a format, a call that fits the buffers, an object, a need, nothing, or anything else.
 pub const FORMAT: u8 = 1;
@@ -37,7 +37,7 @@ pub const BEHIND: usize = 8;
 
 // A record, with 0 for what its kind has not. `size` is M, for all but a format that of the last one; `lent` is how many bytes
 // of the medium buffer are lent. An object's numbers, and a need's, stay in the head.
-#[derive(Drop)]
+#[derive(Clone, Copy)]
 pub struct Record {
     pub kind: u8,
     pub fill: u8,
@@ -133,11 +133,11 @@ fn fitting(r: Record) -> Record
 }
 
 // A format, whose first part has been read into head.
-fn next_format(head: &mut [u8]) -> Record
+fn next_format(stdin: Stdin, head: &mut [u8]) -> Record
     requires { length head.old ≡ head_size }
     ensures { Fits result }
 {
-    let got = io::read_full(STDIN_FILENO, &mut head[FIRST_PART..]);
+    let got = logged::read_full(stdin, &mut head[FIRST_PART..]);
     if got != SECOND_PART {
         return nothing(CUT);
     }
@@ -146,14 +146,14 @@ fn next_format(head: &mut [u8]) -> Record
 }
 
 // A call, whose first part has been read into head. Its frame goes to the start of frame.
-fn next_call(size: usize, head: &[u8], frame: &mut [u8]) -> Record
+fn next_call(stdin: Stdin, size: usize, head: &[u8], frame: &mut [u8]) -> Record
     requires { length frame.old ≡ buffer_size }
     ensures { Fits result }
 {
     let c = call_in(head, size);
     let r = fitting(c);
     let n = r.frame;
-    let got = io::read_full(STDIN_FILENO, &mut frame[..n]);
+    let got = logged::read_full(stdin, &mut frame[..n]);
     if got != n {
         return nothing(CUT);
     }
@@ -161,11 +161,11 @@ fn next_call(size: usize, head: &[u8], frame: &mut [u8]) -> Record
 }
 
 // Reads the next record; M is now `size`.
-pub fn next(size: usize, head: &mut [u8], frame: &mut [u8]) -> Record
+pub fn next(stdin: Stdin, size: usize, head: &mut [u8], frame: &mut [u8]) -> Record
     requires { (length head.old ≡ head_size) × (length frame.old ≡ buffer_size) }
     ensures { Fits result }
 {
-    let got = io::read_full(STDIN_FILENO, &mut head[..FIRST_PART]);
+    let got = logged::read_full(stdin, &mut head[..FIRST_PART]);
     if got == 0 {
         return nothing(END);
     }
@@ -173,10 +173,10 @@ pub fn next(size: usize, head: &mut [u8], frame: &mut [u8]) -> Record
         return nothing(CUT);
     }
     if head[0] == b'F' {
-        return next_format(head);
+        return next_format(stdin, head);
     }
     if head[0] == b'C' {
-        return next_call(size, head, frame);
+        return next_call(stdin, size, head, frame);
     }
     if head[0] == b'O' {
         let r = bare(OBJECT, size);

@@ -10,7 +10,7 @@ use rules::{LAST_VERSION, Operation};
 // Where an operation works. `quarterstart` is where the partition starts on the medium; `start` and `size` are the object's
 // extent in it, `newstart` is the start of a new one; `looksize` and `version` are a look's result, `nextversion` is the next
 // version.
-#[derive(Drop)]
+#[derive(Clone, Copy)]
 pub struct GrantContext {
     pub quarterstart: u32,
     pub start: u32,

@@ -12,6 +12,10 @@ ghost use Rattle.logged.specs.Log.{Added};
 ghost use Rattle.gate.specs.Promises.{BuffersFit, lines_of, line_size, Progress, RoundMet, ServeMet, RunMet, has_ended};
 
 use reader::{Intake, Outcome};
+use std::io::{Stdin, Stdout};
+
+// The medium, the reply space and the buffer of the output have so many bytes.
+const BUFFER_SIZE: usize = 65536;
 
 // So many answers are taken at a time.
 const ANSWERS: usize = 1024;
@@ -43,6 +47,8 @@ fn put_lines(out: &mut [u8], n: u64, rows: &[u32], lengths: &[usize]) -> usize
 
 // A round of the reader, and the lines of its calls.
 fn round(
+    stdin: Stdin,
+    stdout: Stdout,
     t: LoopState,
     medium: &mut [u8],
     input: &mut [u8],
@@ -60,6 +66,7 @@ fn round(
     let d = t.drive;
     let i = t.intake;
     let b = reader::next(
+        stdin,
         d,
         i,
         reader::MOST_FRAME,
@@ -73,7 +80,7 @@ fn round(
     );
     let count = b.count;
     let put = put_lines(out, t.calls, &rows[..count], &lengths[..count]);
-    let w = logged::write(&out[..put], outlog, t.logged);
+    let w = logged::write(stdout, &out[..put], outlog, t.logged);
     let e = b.drive;
     let j = b.intake;
     LoopState {
@@ -87,6 +94,8 @@ fn round(
 
 // Rounds until the input stops or the output can't be written.
 fn serve(
+    stdin: Stdin,
+    stdout: Stdout,
     drive: drive::Drive,
     medium: &mut [u8],
     input: &mut [u8],
@@ -110,7 +119,7 @@ fn serve(
     };
     loop {
         t = round(
-            t, medium, input, reply, rows, lengths, partitions, out, inlog, outlog,
+            stdin, stdout, t, medium, input, reply, rows, lengths, partitions, out, inlog, outlog,
         );
         let i = t.intake;
         let o = i.outcome;
@@ -148,17 +157,26 @@ fn last_line(out: &mut [u8], ended: bool, calls: u64) -> usize
 }
 
 // Writes the last line, and tells how many bytes the log of the output then has.
-fn finish(out: &mut [u8], ended: bool, calls: u64, outlog: &mut [u8], at: usize) -> usize
+fn finish(
+    stdout: Stdout,
+    out: &mut [u8],
+    ended: bool,
+    calls: u64,
+    outlog: &mut [u8],
+    at: usize,
+) -> usize
     requires { line_size ≤ length out.old }
     ensures { Added outlog.old at (cond ended (Program·ended calls) (cut calls)) outlog.new result }
 {
     let n = last_line(out, ended, calls);
-    let w = logged::write(&out[..n], outlog, at);
+    let w = logged::write(stdout, &out[..n], outlog, at);
     w.logged
 }
 
 // Document 01's program, from a freshly formatted drive: the rounds, and then the last line.
 fn run(
+    stdin: Stdin,
+    stdout: Stdout,
     drive: drive::Drive,
     medium: &mut [u8],
     input: &mut [u8],
@@ -174,14 +192,14 @@ fn run(
     ensures { RunMet result medium.new inlog.new outlog.new }
 {
     let t = serve(
-        drive, medium, input, reply, rows, lengths, partitions, out, inlog, outlog,
+        stdin, stdout, drive, medium, input, reply, rows, lengths, partitions, out, inlog, outlog,
     );
     if !t.written {
         return t;
     }
     let d = t.drive;
     let i = t.intake;
-    let logged = finish(out, has_ended(i), t.calls, outlog, t.logged);
+    let logged = finish(stdout, out, has_ended(i), t.calls, outlog, t.logged);
     LoopState {
         drive: d,
         intake: i,
@@ -191,19 +209,21 @@ fn run(
     }
 }
 
-fn main() {
-    let mut medium = io::large_buffer();
+fn main(rt: HostRuntime) {
+    let mut medium = [0u8; BUFFER_SIZE];
     let mut input = reader::input_buffer();
-    let mut reply = io::large_buffer();
+    let mut reply = [0u8; BUFFER_SIZE];
     let mut rows = [0u32; ANSWERS];
     let mut lengths = [0usize; ANSWERS];
     let mut partitions = [0u8; ANSWERS];
-    let mut out = io::large_buffer();
+    let mut out = [0u8; BUFFER_SIZE];
     let mut inlog: [u8; 0] = [];
     let mut outlog: [u8; 0] = [];
     let f = drive::format(&mut medium, 1, &[0u8; 32], &[1u8; 32]);
     let d = f.drive;
     run(
+        rt.stdin(),
+        rt.stdout(),
         d,
         &mut medium,
         &mut input,

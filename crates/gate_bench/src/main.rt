@@ -6,8 +6,9 @@
 ghost use Rattle.std.specs.Prelude.{◌≡◌, length};
 
 use drive::Drive;
-use libc::STDOUT_FILENO;
 use reader::{Batch, Outcome};
+use std::io;
+use std::io::Stdin;
 
 // Four quarters, each with room for an object of 1 MiB and fifteen of 1 KiB.
 const MEDIUM_SIZE: usize = 4259840;
@@ -67,9 +68,9 @@ fn count(t: Tally, rows: &[u32]) -> Tally {
     let mut i: usize = 0;
     while i < rows.len() {
         if rows[i] == 0 {
-            granted = std::num::wrapping_add_u64(granted, 1);
+            granted = granted.wrapping_add(1);
         } else {
-            refused = std::num::wrapping_add_u64(refused, 1);
+            refused = refused.wrapping_add(1);
         }
         i += 1;
     }
@@ -87,6 +88,7 @@ fn no_batch(drive: Drive) -> Batch {
 
 // Rounds of the reader until the input stops.
 fn run(
+    stdin: Stdin,
     drive: Drive,
     medium: &mut [u8],
     input: &mut [u8],
@@ -104,7 +106,7 @@ fn run(
         let d = b.drive;
         let i = b.intake;
         b = reader::next(
-            d, i, MOST_FRAME, medium, input, reply, rows, lengths, partitions, inlog,
+            stdin, d, i, MOST_FRAME, medium, input, reply, rows, lengths, partitions, inlog,
         );
         let j = b.intake;
         let o = j.outcome;
@@ -117,7 +119,7 @@ fn run(
     t
 }
 
-fn main() {
+fn main(rt: HostRuntime) -> io::Result<()> {
     let mut medium = medium_buffer();
     let mut input = input_buffer();
     let mut reply = reply_buffer();
@@ -128,6 +130,7 @@ fn main() {
     let f = drive::format(&mut medium, 1, &[0u8; 32], &[1u8; 32]);
     let d = f.drive;
     let t = run(
+        rt.stdin(),
         d,
         &mut medium,
         &mut input,
@@ -137,8 +140,7 @@ fn main() {
         &mut partitions,
         &mut inlog,
     );
-    io::print_decimal(STDOUT_FILENO, t.granted);
-    io::write_all(STDOUT_FILENO, b" granted, ");
-    io::print_decimal(STDOUT_FILENO, t.refused);
-    io::write_all(STDOUT_FILENO, b" refused\n");
+    let granted = t.granted;
+    let refused = t.refused;
+    println!(rt; "{granted} granted, {refused} refused")
 }

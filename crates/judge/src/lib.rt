@@ -30,7 +30,7 @@ use wire::{ParsedRequest, Reach};
 
 // What a frame can see of a drive beside the keys and its own partition's table: M, the mark, and of its own replay memory,
 // from which outlived entries are gone, whether that holds the frame's nonce, and how many entries.
-#[derive(Drop)]
+#[derive(Clone, Copy)]
 pub struct ScopeFacts {
     pub size: usize,
     pub highwater: u64,

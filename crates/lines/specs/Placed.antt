@@ -2,7 +2,6 @@
 use Rattle.std.specs.Prelude.{◌≡◌, List, ◌++◌, ℕ, ◌+◌, ◌≤◌, length, take}
 use Rattle.std.proofs.Common.{ap, ◌∙◌, le-leb}
 use Rattle.octets.specs.Behind.{put_behind}
-use Rattle.octets.specs.Numbers.{bytes_put}
 use Rattle.lines.specs.Text.{TextPut}
 
 pub text_put_lem : (s : List ℕ) (i : ℕ) (t : List ℕ) (r : ℕ) (s' : List ℕ) → i + length t ≤ length s → TextPut s i t r s'

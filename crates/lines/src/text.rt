@@ -8,7 +8,7 @@ ghost use Rattle.lines.specs.Text.{text_size, text_of, place_after, TextPut};
 const TEXT_SIZE: usize = 64;
 
 // The text is the bytes from place `from` on.
-#[derive(Drop)]
+#[derive(Clone, Copy)]
 pub struct Text {
     pub bytes: [u8; TEXT_SIZE],
     pub from: usize,

@@ -11,7 +11,7 @@ ghost use Rattle.placing.specs.Placing.{place_option, gap_of, gap_option, run_fr
 use rules::Object;
 
 // Bytes from one place up to another; vacant where they are free.
-#[derive(Drop)]
+#[derive(Clone, Copy)]
 struct Run {
     vacant: bool,
     from: u64,
@@ -19,7 +19,7 @@ struct Run {
 }
 
 // The start of a new extent, counted from the quarter's start, or no place at all (row 20).
-#[derive(Drop)]
+#[derive(Clone, Copy)]
 pub enum Place {
     At(u32),
     Nowhere,

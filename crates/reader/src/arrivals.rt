@@ -8,6 +8,7 @@ use super::whole::whole_record;
 use super::{Intake, Outcome};
 use lemmas::smaller;
 use logged::ReadResult;
+use std::io::Stdin;
 
 // The pending bytes move to the front of the input buffer where less than this is free behind them.
 const READ_SIZE: usize = 65536;
@@ -107,7 +108,7 @@ fn after_read(t: Intake, got: ReadResult) -> Intake
 }
 
 // Makes room behind the pending bytes, and reads once into it. Where they fill the buffer, the input can't be read on.
-fn read_behind(t: Intake, input: &mut [u8], inlog: &mut [u8]) -> Intake
+fn read_behind(stdin: Stdin, t: Intake, input: &mut [u8], inlog: &mut [u8]) -> Intake
     requires { Within t input.old × (t.received < input_limit) × (t.logged ≤ length inlog.old) }
     ensures { ReadMet t input.old inlog.old result input.new inlog.new }
 {
@@ -118,12 +119,12 @@ fn read_behind(t: Intake, input: &mut [u8], inlog: &mut [u8]) -> Intake
         return stopped(p, Outcome::Unread);
     }
     let end = at + room;
-    let got = logged::read(&mut input[at..end], inlog, p.logged);
+    let got = logged::read(stdin, &mut input[at..end], inlog, p.logged);
     after_read(p, got)
 }
 
 // Where no whole record is pending, reads once behind the pending bytes.
-pub fn fill(t: Intake, most: u64, input: &mut [u8], inlog: &mut [u8]) -> Intake
+pub fn fill(stdin: Stdin, t: Intake, most: u64, input: &mut [u8], inlog: &mut [u8]) -> Intake
     ensures { FillMet most t input.old inlog.old result input.new inlog.new }
 {
     let p = placed(t, input.len(), inlog.len());
@@ -139,5 +140,5 @@ pub fn fill(t: Intake, most: u64, input: &mut [u8], inlog: &mut [u8]) -> Intake
     if p.received >= INPUT_LIMIT {
         return stopped(p, Outcome::Unread);
     }
-    read_behind(p, input, inlog)
+    read_behind(stdin, p, input, inlog)
 }

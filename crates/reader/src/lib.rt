@@ -11,6 +11,7 @@ ghost use Rattle.std.specs.Prelude.{◌≡◌, replicate};
 ghost use Rattle.reader.specs.Promises.{input_size, NextMet, nothing_read};
 
 use drive::Drive;
+use std::io::Stdin;
 
 // Document 01's longest frame of a program's input record.
 pub const MOST_FRAME: u64 = 65536;
@@ -20,7 +21,7 @@ pub const INPUT_SIZE: usize = 131086;
 
 // Whether the input goes on; or why it stops: it has ended, what comes is no input record whatever follows, it can't be
 // read on.
-#[derive(Drop)]
+#[derive(Clone, Copy)]
 pub enum Outcome {
     Running,
     Ended,
@@ -30,7 +31,7 @@ pub enum Outcome {
 
 // The bytes of the input buffer from `from` up to `to` have been read and not answered; so many bytes were read in all, so
 // many of them the log has.
-#[derive(Drop)]
+#[derive(Clone, Copy)]
 pub struct Intake {
     pub from: usize,
     pub to: usize,
@@ -71,6 +72,7 @@ pub fn start() -> Intake
 // of each call its row, its reply's length and its credential's partition. It reads, once, only where no record is whole:
 // so all that has arrived is answered before it waits. A frame of more than `most` bytes makes no record.
 pub fn next(
+    stdin: Stdin,
     drive: Drive,
     intake: Intake,
     most: u64,
@@ -84,7 +86,7 @@ pub fn next(
 ) -> Batch
     ensures { NextMet drive intake most medium.old input.old reply.old rows.old lengths.old partitions.old inlog.old result medium.new input.new reply.new rows.new lengths.new partitions.new inlog.new }
 {
-    let t = arrivals::fill(intake, most, input, inlog);
+    let t = arrivals::fill(stdin, intake, most, input, inlog);
     let o = t.outcome;
     let Outcome::Running = o else {
         return Batch {

@@ -4,7 +4,7 @@ ghost use Rattle.reader.specs.Promises.{WholeRecordMet};
 use record::Arrived;
 
 // A whole input record: its clock and its size in bytes, head and frame; size 0 where there is none.
-#[derive(Drop)]
+#[derive(Clone, Copy)]
 pub struct InputRecord {
     pub clock: u64,
     pub size: usize,

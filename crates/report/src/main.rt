@@ -11,6 +11,10 @@ ghost use Rattle.logged.specs.Log.{Added};
 ghost use Rattle.report.specs.Promises.{BuffersFit, counted_all, no_counts, out_size, Progress, RoundMet, RunMet, ServeMet};
 
 use reader::{Intake, Outcome};
+use std::io::{Stdin, Stdout};
+
+// The medium, the reply space and the buffer of the output have so many bytes.
+const BUFFER_SIZE: usize = 65536;
 
 // So many answers are taken at a time.
 const ANSWERS: usize = 1024;
@@ -46,6 +50,7 @@ fn count_all(counters: &mut [u64], rows: &[u32], partitions: &[u8])
 
 // A round of the reader, and its calls counted.
 fn round(
+    stdin: Stdin,
     t: LoopState,
     medium: &mut [u8],
     input: &mut [u8],
@@ -62,6 +67,7 @@ fn round(
     let d = t.drive;
     let i = t.intake;
     let b = reader::next(
+        stdin,
         d,
         i,
         reader::MOST_FRAME,
@@ -86,6 +92,7 @@ fn round(
 
 // Rounds until the input stops.
 fn serve(
+    stdin: Stdin,
     drive: drive::Drive,
     medium: &mut [u8],
     input: &mut [u8],
@@ -106,7 +113,7 @@ fn serve(
     };
     loop {
         t = round(
-            t, medium, input, reply, rows, lengths, partitions, counters, inlog,
+            stdin, t, medium, input, reply, rows, lengths, partitions, counters, inlog,
         );
         let i = t.intake;
         let o = i.outcome;
@@ -117,18 +124,20 @@ fn serve(
 }
 
 // Writes the counts and then the total, and tells how many bytes the log of the output then has.
-fn print(counters: &[u64], calls: u64, out: &mut [u8], outlog: &mut [u8]) -> usize
+fn print(stdout: Stdout, counters: &[u64], calls: u64, out: &mut [u8], outlog: &mut [u8]) -> usize
     requires { (length counters.now ≡ counter_count) × (out_size ≤ length out.old) }
     ensures { Added outlog.old 0 (count_lines (counts_from 0 counters.now) ++ total calls) outlog.new result }
 {
     let lines = tally::put_counts(counters, out, 0);
     let end = lines::put_total(out, lines, calls);
-    let w = logged::write(&out[..end], outlog, 0);
+    let w = logged::write(stdout, &out[..end], outlog, 0);
     w.logged
 }
 
 // The shift report, from a freshly formatted drive and counters of 0.
 fn run(
+    stdin: Stdin,
+    stdout: Stdout,
     drive: drive::Drive,
     medium: &mut [u8],
     input: &mut [u8],
@@ -145,11 +154,11 @@ fn run(
     ensures { RunMet result medium.new inlog.new outlog.new }
 {
     let t = serve(
-        drive, medium, input, reply, rows, lengths, partitions, counters, inlog,
+        stdin, drive, medium, input, reply, rows, lengths, partitions, counters, inlog,
     );
     let d = t.drive;
     let i = t.intake;
-    let logged = print(counters, t.calls, out, outlog);
+    let logged = print(stdout, counters, t.calls, out, outlog);
     Printed {
         drive: d,
         intake: i,
@@ -158,20 +167,22 @@ fn run(
     }
 }
 
-fn main() {
-    let mut medium = io::large_buffer();
+fn main(rt: HostRuntime) {
+    let mut medium = [0u8; BUFFER_SIZE];
     let mut input = reader::input_buffer();
-    let mut reply = io::large_buffer();
+    let mut reply = [0u8; BUFFER_SIZE];
     let mut rows = [0u32; ANSWERS];
     let mut lengths = [0usize; ANSWERS];
     let mut partitions = [0u8; ANSWERS];
     let mut counters = [0u64; tally::COUNTERS];
-    let mut out = io::large_buffer();
+    let mut out = [0u8; BUFFER_SIZE];
     let mut inlog: [u8; 0] = [];
     let mut outlog: [u8; 0] = [];
     let f = drive::format(&mut medium, 1, &[0u8; 32], &[1u8; 32]);
     let d = f.drive;
     run(
+        rt.stdin(),
+        rt.stdout(),
         d,
         &mut medium,
         &mut input,

@@ -1,6 +1,6 @@
 -- The result that a granted operation puts into the reply is the rules' result.
 -- s: the scope. x: the frame's fields. m: the medium. k: where the operation works. r: the reply space.
-use Rattle.std.specs.Prelude.{◌≡◌, refl, List, [], ◌++◌, ℕ, ◌+◌, ◌≤◌, length}
+use Rattle.std.specs.Prelude.{◌≡◌, refl, List, ◌++◌, ℕ, ◌+◌, ◌≤◌, length}
 use Rattle.std.proofs.Common.{sym, ◌∙◌, arith, length-append, le-leb}
 use Rattle.lemmas.specs.Lists.{splice}
 use Rattle.lemmas.specs.Parts.{length_part, length-splice}

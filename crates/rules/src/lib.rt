@@ -23,7 +23,7 @@ pub const KEY_SIZE: usize = 32;
 pub const DIGEST_SIZE: usize = 32;
 
 // Credential, 36 bytes: one number for each field, in its order.
-#[derive(Drop)]
+#[derive(Clone, Copy)]
 pub struct Credential {
     pub magic: u16,
     pub partition: u8,
@@ -40,7 +40,7 @@ pub struct Credential {
 }
 
 // Request, 28 bytes, or 32 with a group's member: one number for each field, in its order. `member` is 0 where a request has none.
-#[derive(Drop)]
+#[derive(Clone, Copy)]
 pub struct Request {
     pub magic: u16,
     pub operation: u8,
@@ -54,7 +54,7 @@ pub struct Request {
 }
 
 // Where the parts of a frame start that stand behind its credential: request, data and digest.
-#[derive(Drop)]
+#[derive(Clone, Copy)]
 pub struct PartStarts {
     pub request: usize,
     pub payload: usize,
@@ -63,7 +63,7 @@ pub struct PartStarts {
 
 // An operation with its own arguments (document 01: "A parsed request holds its operation with that operation's own
 // arguments").
-#[derive(Drop)]
+#[derive(Clone, Copy)]
 pub enum Operation {
     Read { offset: u32, length: u32 },
     Write { offset: u32, length: u32 },
@@ -76,7 +76,7 @@ pub enum Operation {
 }
 
 // An object of a partition. Its extent ("area" in document 01) starts `start` bytes after its quarter's start.
-#[derive(Drop)]
+#[derive(Clone, Copy)]
 pub struct Object {
     pub number: u32,
     pub version: u32,
@@ -86,7 +86,7 @@ pub struct Object {
 
 // What an operation needs (document 02, change 5: "a mask of required rights and a least level"): every right in the mask, and a
 // level of at least `least`.
-#[derive(Drop)]
+#[derive(Clone, Copy)]
 pub struct Need {
     pub mask: u32,
     pub least: u32,
@@ -94,7 +94,7 @@ pub struct Need {
 
 // An entry of a replay memory ("nonce memory" in document 01): document 01's four numbers and, since change 2 of document 02, the
 // credential's object, 0 for the partition.
-#[derive(Drop)]
+#[derive(Clone, Copy)]
 pub struct Entry {
     pub slot: u32,
     pub holder: u32,

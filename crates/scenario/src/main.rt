@@ -8,8 +8,9 @@ ghost use Rattle.std.specs.Prelude.{◌≡◌, length};
 use drive::{Answer, Drive};
 use frames::four;
 use lemmas::smaller;
-use libc::STDIN_FILENO;
 use player::Player;
+use std::io;
+use std::io::Stdout;
 use words::NUMBERS;
 
 mod frames;
@@ -25,6 +26,9 @@ const LINE_LIMIT: u64 = 100000;
 const TABLES: usize = drive::TABLES;
 
 const KEY_SIZE: usize = rules::KEY_SIZE;
+
+// The script has no more bytes.
+const SCRIPT_SIZE: usize = 65536;
 
 // The largest medium that a scenario has.
 const MEDIUM_SIZE: usize = 1024;
@@ -46,8 +50,7 @@ fn frame_buffer() -> [u8; FRAME_SIZE]
 }
 
 // The player with what a line can see of the drive.
-fn observing(a: Answer, numbers: [u64; NUMBERS], kept: [u8; KEY_SIZE]) -> Player {
-    let d = a.drive;
+fn observing(d: &Drive, numbers: [u64; NUMBERS], kept: [u8; KEY_SIZE]) -> Player {
     let keys = d.keys;
     let tables = d.tables;
     let held = d.lengths[0];
@@ -84,7 +87,7 @@ fn damaged(a: Answer, n: [u64; NUMBERS]) -> Answer {
 fn tables_with_need(old: [u32; TABLES], n: [u64; NUMBERS]) -> [u32; TABLES] {
     let mut t = old;
     let from = player::table_start(n[words::A]);
-    let i = std::num::wrapping_sub_u64(n[words::B], 1) as usize;
+    let i = n[words::B].wrapping_sub(1) as usize;
     if i < player::OPERATIONS {
         t[from + (player::MASKS_FROM + i)] = four(n[words::C]);
         t[from + (player::LEASTS_FROM + i)] = four(n[words::C + 1]);
@@ -165,26 +168,44 @@ fn act(a: Answer, n: [u64; NUMBERS], medium: &mut [u8], frame: &[u8], reply: &mu
 }
 
 // Plays the lines until `stop`, or until there are too many.
-fn play(script: &[u8], medium: &mut [u8], frame: &mut [u8], reply: &mut [u8]) {
+fn play(
+    out: Stdout,
+    script: &[u8],
+    medium: &mut [u8],
+    frame: &mut [u8],
+    reply: &mut [u8],
+) -> io::Result<()> {
     let mut t = player::initial();
     let mut n = t.numbers;
     let mut a = formatted(n, medium);
     let mut left = LINE_LIMIT;
     while left > 0 {
         let kept = t.kept;
-        t = player::prepared(observing(a, player::next(n, script), kept), script, frame);
+        t = player::prepared(
+            out,
+            observing(&a.drive, player::next(n, script), kept),
+            script,
+            frame,
+        )?;
         n = t.numbers;
         a = act(a, n, medium, frame, reply);
-        player::print_answer(n, a.row, a.length, script, reply);
-        left = player::lines_left(left, n[words::WORD]);
+        player::print_answer(out, n, a.row, a.length, script, reply)?;
+        left = player::lines_left(out, left, n[words::WORD])?;
     }
+    Ok(())
 }
 
-fn main() {
-    let mut script = io::large_buffer();
+fn main(rt: HostRuntime) -> io::Result<()> {
+    let mut script = [0u8; SCRIPT_SIZE];
     let mut medium = medium_buffer();
     let mut frame = frame_buffer();
     let mut reply = frame_buffer();
-    let n = io::read_full(STDIN_FILENO, &mut script);
-    play(&script[..n], &mut medium, &mut frame, &mut reply);
+    let n = logged::read_full(rt.stdin(), &mut script);
+    play(
+        rt.stdout(),
+        &script[..n],
+        &mut medium,
+        &mut frame,
+        &mut reply,
+    )
 }

@@ -1,11 +1,13 @@
 // Plays one line of the script, but for what the line does to the drive. `words` names the places of the player's numbers.
-ghost use Rattle.std.specs.Prelude.{◌*◌, ◌<◌, ◌≤◌};
+ghost use Rattle.std.specs.Prelude.{◌*◌, ◌<◌, ◌≤◌, IfOk};
 ghost use Rattle.state.specs.Table.{table_size};
 
 use crate::frames::{four, one};
 use crate::words::NUMBERS;
 use crate::{frames, say, script, words};
 use lemmas::smaller;
+use std::io;
+use std::io::Stdout;
 
 // The sizes of the drive's key store, of its tables and of one partition's table; how many keys there are, how long one is.
 const KEYS: usize = keyring::KEYS;
@@ -67,7 +69,7 @@ fn line_of<'a>(script: &'a [u8], n: [u64; NUMBERS]) -> &'a [u8] {
 fn moved(old: [u64; NUMBERS], script: &[u8]) -> [u64; NUMBERS] {
     let mut n = old;
     if words::sends(n[words::WORD] as usize) & (n[words::REPEAT] > 1) {
-        n[words::REPEAT] = std::num::wrapping_sub_u64(n[words::REPEAT], 1);
+        n[words::REPEAT] = n[words::REPEAT].wrapping_sub(1);
         return n;
     }
     let at = n[words::NEXT] as usize;
@@ -222,33 +224,34 @@ pub fn with_drive(
 }
 
 // The last version given, and how many objects there are.
-fn show_objects(last: u64, count: u64) {
-    say::number(b"last version given", last);
-    say::number(b"objects", count);
+fn show_objects(out: Stdout, last: u64, count: u64) -> io::Result<()> {
+    say::number(out, b"last version given", last)?;
+    say::number(out, b"objects", count)
 }
 
 // Where an object starts in its quarter.
-fn show_start(start: u64) {
+fn show_start(out: Stdout, start: u64) -> io::Result<()> {
     if start != u64::MAX {
-        say::number(b"starts at", start);
+        say::number(out, b"starts at", start)?;
     }
+    Ok(())
 }
 
 // Prints what a line asks to see, a title, or that its word is none.
-fn show(n: [u64; NUMBERS], key: [u8; KEY_SIZE], line: &[u8]) {
+fn show(out: Stdout, n: [u64; NUMBERS], key: [u8; KEY_SIZE], line: &[u8]) -> io::Result<()> {
     let word = n[words::WORD] as usize;
     let label = script::word(line, 0);
     let place = words::shown_place(word);
     match word {
-        0 => say::error(line),
-        words::TITLE => say::line(line),
-        words::MARK | words::HELD | words::SIZE => say::number(label, n[place]),
-        words::OBJECTS => show_objects(n[words::LAST], n[words::DRIVE + 2]),
-        words::RECORD => say::numbers(label, &n[words::DRIVE..words::LAST]),
-        words::START => show_start(n[words::PLACE]),
-        words::KEY => say::bytes(label, &key),
-        words::TABLE => say::numbers(label, &n[words::NEEDS..NUMBERS]),
-        _ => {}
+        0 => say::error(out, line),
+        words::TITLE => say::line(out, line),
+        words::MARK | words::HELD | words::SIZE => say::number(out, label, n[place]),
+        words::OBJECTS => show_objects(out, n[words::LAST], n[words::DRIVE + 2]),
+        words::RECORD => say::numbers(out, label, &n[words::DRIVE..words::LAST]),
+        words::START => show_start(out, n[words::PLACE]),
+        words::KEY => say::bytes(out, label, &key),
+        words::TABLE => say::numbers(out, label, &n[words::NEEDS..NUMBERS]),
+        _ => Ok(()),
     }
 }
 
@@ -273,8 +276,8 @@ fn framed(
 ) -> [u64; NUMBERS] {
     let mut n = old;
     n[words::LENGTH] = frames::build(n, key, line, frame) as u64;
-    n[words::COUNT] = std::num::wrapping_add_u64(n[words::COUNT], 1);
-    n[words::TIME] = std::num::wrapping_add_u64(n[words::TIME], n[words::PACE]);
+    n[words::COUNT] = n[words::COUNT].wrapping_add(1);
+    n[words::TIME] = n[words::TIME].wrapping_add(n[words::PACE]);
     n
 }
 
@@ -287,52 +290,59 @@ fn set_byte(frame: &mut [u8], at: u64, x: u64) {
 }
 
 // With what the line prints printed, its frame built or a byte of it set, its key kept.
-pub fn prepared(t: Player, script: &[u8], frame: &mut [u8]) -> Player {
+pub fn prepared(out: Stdout, t: Player, script: &[u8], frame: &mut [u8]) -> io::Result<Player> {
     let n = t.numbers;
     let key = t.key;
     let kept = t.kept;
     let word = n[words::WORD] as usize;
     let line = line_of(script, n);
-    show(n, key, line);
+    show(out, n, key, line)?;
     if words::builds(word) {
         let by = signing_key(n[words::SIGN], key, kept);
         let numbers = framed(n, by, line, frame);
-        return Player { numbers, key, kept };
+        return Ok(Player { numbers, key, kept });
     }
     if word == words::BYTE {
         set_byte(frame, n[words::A], n[words::B]);
-        return t;
+        return Ok(t);
     }
     if word == words::KEEP {
-        return Player {
+        return Ok(Player {
             numbers: n,
             key,
             kept: key,
-        };
+        });
     }
-    t
+    Ok(t)
 }
 
 // Prints the answer to a line that has one.
-pub fn print_answer(n: [u64; NUMBERS], row: u32, length: usize, script: &[u8], space: &[u8]) {
+pub fn print_answer(
+    out: Stdout,
+    n: [u64; NUMBERS],
+    row: u32,
+    length: usize,
+    script: &[u8],
+    space: &[u8],
+) -> io::Result<()> {
     let word = n[words::WORD] as usize;
     if (n[words::QUIET] != 0) | !words::answers(word) {
-        return;
+        return Ok(());
     }
     let label = script::label(line_of(script, n));
-    say::answer(label, row, script::part(space, 0, length));
+    say::answer(out, label, row, script::part(space, 0, length))
 }
 
 // How many lines may still be played: one less, and none behind the end.
-pub fn lines_left(left: u64, word: u64) -> u64
+pub fn lines_left(out: Stdout, left: u64, word: u64) -> io::Result<u64>
     requires { 0 < left }
-    ensures { result < left }
+    ensures { IfOk result (λ r. r < left) }
 {
     if word as usize == words::STOP {
-        return 0;
+        return Ok(0);
     }
     if left == 1 {
-        say::error(b"too many lines");
+        say::error(out, b"too many lines")?;
     }
-    left - 1
+    Ok(left - 1)
 }

@@ -41,7 +41,7 @@ pub const LEASTS: usize = MASKS + TABLE_OPERATIONS;
 pub const TABLE: usize = LEASTS + TABLE_OPERATIONS;
 
 // The object that has a number; `missing` where there is none, and then the object is all zeros.
-#[derive(Drop)]
+#[derive(Clone, Copy)]
 pub struct Lookup {
     pub missing: bool,
     pub object: Object,

@@ -8,6 +8,8 @@ use drive::Drive;
 use lemmas::smaller;
 use records::{CredentialFields, RequestFields};
 use rules::Credential;
+use std::io;
+use std::io::Stdout;
 
 mod say;
 
@@ -65,6 +67,7 @@ fn new_key(key: &[u8], count: u32, seed: &[u8]) -> [u8; 32]
 
 // One exchange, under the key of the credential's slot. What came of it is printed.
 fn send(
+    out: Stdout,
     store: Drive,
     medium: &mut [u8],
     what: &[u8],
@@ -74,7 +77,7 @@ fn send(
     version: u32,
     request: [u8; 28],
     payload: &[u8],
-) -> Drive {
+) -> io::Result<Drive> {
     let mut credential = [0u8; 36];
     let mut frame = [0u8; 160];
     let mut reply = [0u8; 160];
@@ -87,16 +90,17 @@ fn send(
     let answer = drive::gate(store, medium, &frame[..n], NOW, &mut reply);
     let m = smaller(answer.length, reply.len());
     let result = client::check(&credential, &request, &secret, &reply[..m], &mut row);
-    say::step(what, answer.row, row, result);
-    answer.drive
+    say::step(out, what, answer.row, row, result)?;
+    Ok(answer.drive)
 }
 
 // Makes the medium a drive's, with first version 1. Gives partition 0 a key, under the drive's, and working key 0, under
 // that one.
-fn make_ready(medium: &mut [u8], top: &[u8], upper: &[u8]) -> Drive {
+fn make_ready(out: Stdout, medium: &mut [u8], top: &[u8], upper: &[u8]) -> io::Result<Drive> {
     let formatted = drive::format(medium, 1, &[0u8; 32], top);
-    say::format(formatted.row);
+    say::format(out, formatted.row)?;
     let store = send(
+        out,
         formatted.drive,
         medium,
         b"set the key of partition 0",
@@ -106,8 +110,9 @@ fn make_ready(medium: &mut [u8], top: &[u8], upper: &[u8]) -> Drive {
         0,
         key_request(1),
         b"partition 0 seed",
-    );
+    )?;
     send(
+        out,
         store,
         medium,
         b"set its working key 0",
@@ -121,8 +126,9 @@ fn make_ready(medium: &mut [u8], top: &[u8], upper: &[u8]) -> Drive {
 }
 
 // Makes object 1, which gets version 2, and writes a shape into it.
-fn write_shape(store: Drive, medium: &mut [u8], key: &[u8]) -> Drive {
+fn write_shape(out: Stdout, store: Drive, medium: &mut [u8], key: &[u8]) -> io::Result<Drive> {
     let store = send(
+        out,
         store,
         medium,
         b"create object 1 of 20 bytes",
@@ -132,8 +138,9 @@ fn write_shape(store: Drive, medium: &mut [u8], key: &[u8]) -> Drive {
         1,
         request_of(5, 3, 1, 20, 0),
         b"",
-    );
+    )?;
     send(
+        out,
         store,
         medium,
         b"write a shape into it",
@@ -147,8 +154,9 @@ fn write_shape(store: Drive, medium: &mut [u8], key: &[u8]) -> Drive {
 }
 
 // Reads object 1, twice. The same records under the same key make the same frame.
-fn read_shape(store: Drive, medium: &mut [u8], key: &[u8]) {
+fn read_shape(out: Stdout, store: Drive, medium: &mut [u8], key: &[u8]) -> io::Result<Drive> {
     let store = send(
+        out,
         store,
         medium,
         b"read it back",
@@ -158,8 +166,9 @@ fn read_shape(store: Drive, medium: &mut [u8], key: &[u8]) {
         2,
         request_of(1, 5, 0, 20, 0),
         b"",
-    );
+    )?;
     send(
+        out,
         store,
         medium,
         b"the same frame again",
@@ -169,15 +178,17 @@ fn read_shape(store: Drive, medium: &mut [u8], key: &[u8]) {
         2,
         request_of(1, 5, 0, 20, 0),
         b"",
-    );
+    )
 }
 
-fn main() {
+fn main(rt: HostRuntime) -> io::Result<()> {
+    let out = rt.stdout();
     let mut medium = [0u8; 400];
     let top = [1u8; 32];
     let upper = new_key(&top, 1, b"partition 0 seed");
     let key = new_key(&upper, 2, b"working key seed");
-    let store = make_ready(&mut medium, &top, &upper);
-    let store = write_shape(store, &mut medium, &key);
-    read_shape(store, &mut medium, &key);
+    let store = make_ready(out, &mut medium, &top, &upper)?;
+    let store = write_shape(out, store, &mut medium, &key)?;
+    read_shape(out, store, &mut medium, &key)?;
+    Ok(())
 }

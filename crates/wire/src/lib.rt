@@ -12,7 +12,7 @@ mod reader;
 
 // Whose bytes a request reads, writes or looks at: those of the credential's own object, or those of a member, of this number, of
 // the group that the credential names (document 02, change 6).
-#[derive(Drop)]
+#[derive(Clone, Copy)]
 pub enum Reach {
     Own,
     Member(u32),
@@ -20,7 +20,7 @@ pub enum Reach {
 
 // A request that no row from 3 to 6 refuses. Its nonce is time and count; n is the data's length; starts tells where it, its data
 // and the digest start in the frame.
-#[derive(Drop)]
+#[derive(Clone, Copy)]
 pub struct ParsedRequest {
     pub operation: Operation,
     pub reach: Reach,
@@ -32,7 +32,7 @@ pub struct ParsedRequest {
 }
 
 // An operation's number in document 01, its A and its B.
-#[derive(Drop)]
+#[derive(Clone, Copy)]
 struct OperationNumbers {
     operation: u8,
     a: u32,
@@ -40,7 +40,7 @@ struct OperationNumbers {
 }
 
 // The answer of the parse: the fields of credential and request, or the row that refuses the frame.
-#[derive(Drop)]
+#[derive(Clone, Copy)]
 pub enum Parsed {
     Fields(rules::Credential, ParsedRequest),
     Refused(u32),

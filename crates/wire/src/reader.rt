@@ -7,7 +7,7 @@ ghost use Rattle.wire.specs.Parse.{answer_of, records_answer};
 
 use crate::{Parsed, outcome};
 
-#[derive(Drop)]
+#[derive(Clone, Copy)]
 pub struct Reader<'a> {
     pub src: &'a [u8],
     pub at: usize,
@@ -46,7 +46,7 @@ pub fn request<'a>(r: Reader<'a>, c: rules::Credential) -> Parsed
     outcome::request_at(r.src, r.at, c)
 }
 
-// From a frame to its fields: its parameter is a plain slice, so whoever calls it needs no walk by hand.
+// From a frame to its fields.
 pub fn walk(frame: &[u8]) -> Parsed
     requires { least_frame ≤ length frame.now }
     ensures { answer_of result ≡ records_answer (credential_at frame.now 0) (frame_request frame.now) (request_start frame.now) (length frame.now) }

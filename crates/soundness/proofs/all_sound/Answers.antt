@@ -1,0 +1,22 @@
+-- r: whether all places under i are sound (each_more).
+use Rattle.std.proofs.Common.{◌≡◌, refl, arith, rules}
+use Rattle.soundness.specs.Spans.{sound_at, each, each_more}
+use Rattle.soundness.proofs.all_sound.Goals as goal
+
+pub loop-i-init : goal.loop-i-init
+unfolding each
+loop-i-init c = (search rules, refl)
+
+pub loop-i-preserved : goal.loop-i-preserved
+loop-i-preserved c =
+    let l = c.loop-i in
+    let a = c.args in
+    let t = sound_at a.quarter a.last a.numbers.now a.starts.now a.ends.now a.versions.now in
+    (search rules, rw (each_more t l.i, l.invariant.1, c.is_sound-r.ensures))
+
+pub returns : goal.returns
+returns c =
+    let l = c.loop-i in
+    let a = c.args in
+    let e : l.i ≡ a.n = omega arith in
+    rw e at l.invariant.1

@@ -1,0 +1,10 @@
+-- hit: whether a place under i clashes (each_more); those from n on pass (each_first).
+use Rattle.std.proofs.Common.{◌≡◌, ℕ, ◌-◌, ◌≤◌, not, ◌||◌, leb}
+use Rattle.soundness.specs.Spans.{each, clash_at}
+use Rattle.soundness.proofs.is_clear.Given as goal
+
+abbrev pub invariant-loop-i : goal.invariant-loop-i
+invariant-loop-i l = (l.i ≤ l.most) × (not l.hit ≡ each (λ (k : ℕ). leb l.n k || not (clash_at l.numbers l.starts l.ends l.n k)) l.i)
+
+abbrev pub decreases-loop-i : goal.decreases-loop-i
+decreases-loop-i l = l.most - l.i
