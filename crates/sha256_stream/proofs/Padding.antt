@@ -9,7 +9,7 @@ use Rattle.sha256_block.specs.PaddingCases.{zero_filled, last_blocks}
 use Rattle.sha256_block.proofs.PaddingCasesLaws.{filled_none, take_filled, length_filled, in_one, in_two, same_blocks}
 use Rattle.sha256_block.proofs.PaddingLaws.{last_by_cases}
 use Rattle.sha256_stream.specs.Stream.{worked_in, finished}
-use Rattle.sha256_stream.specs.AbsorbedLaws.{same_field}
+use Rattle.sha256_stream.proofs.AbsorbedLaws.{same_field}
 use Rattle.sha256_stream.proofs.Absorbing.{length_begun}
 
 -- ---- the bytes of the words
