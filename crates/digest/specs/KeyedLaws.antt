@@ -7,7 +7,7 @@ use Prim.Native.Nat.{ℕ}
 use Rattle.sha256_block.specs.Sha256.{sha256}
 use Rattle.sha256_stream.specs.Stream.{started, absorbed, finished}
 use Rattle.sha256_stream.specs.Absorbed.{Absorbed}
-use Rattle.sha256_stream.specs.AbsorbedLaws.{absorbed_none, absorbed_more, finished-absorbed, length-finished}
+use Rattle.sha256_stream.proofs.AbsorbedLaws.{absorbed_none, absorbed_more, finished-absorbed, length-finished}
 use Rattle.digest.specs.declared.mac.Mac.{Mac}
 use Rattle.digest.specs.Hmac.{xored, key_block, ipad, opad, hmac}
 use Rattle.digest.specs.Mac.{mac_started, mac_absorbed, mac_finished}

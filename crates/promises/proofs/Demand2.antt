@@ -6,7 +6,7 @@ use Prim.Native.Nat.{◌+◌, ◌-◌, ℕ}
 use native.Mathlib.Omega.{arith}
 use lib.ListN.{length, take}
 use Rattle.lemmas.specs.RowTable.{first_row, line}
-use Rattle.sha256_block.specs.PaddingLaws.{padded_message}
+use Rattle.sha256_block.proofs.PaddingLaws.{padded_message}
 use Rattle.rules.specs.Client.{build, check, Checked, frame_of, issue}
 use Rattle.rules.specs.Demands as rules_demands
 use Rattle.rules.specs.Drive.{refresh}

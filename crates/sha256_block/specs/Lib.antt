@@ -3,5 +3,3 @@ pub mod Sha256
 pub mod Lanes
 pub mod PaddingCases
 pub mod Padding
-pub mod PaddingCasesLaws
-pub mod PaddingLaws

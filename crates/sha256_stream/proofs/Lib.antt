@@ -1,2 +1,3 @@
 pub mod Absorbing
 pub mod Padding
+pub mod AbsorbedLaws

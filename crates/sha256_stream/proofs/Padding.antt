@@ -6,10 +6,10 @@ use Rattle.sha256_block.specs.declared.State.{State}
 use Rattle.sha256_stream.specs.declared.Hash.{Hash}
 use Rattle.sha256_block.specs.Sha256.{compress, blocks, bytes}
 use Rattle.sha256_block.specs.PaddingCases.{zero_filled, last_blocks}
-use Rattle.sha256_block.specs.PaddingCasesLaws.{filled_none, take_filled, length_filled, in_one, in_two, same_blocks}
-use Rattle.sha256_block.specs.PaddingLaws.{last_by_cases}
+use Rattle.sha256_block.proofs.PaddingCasesLaws.{filled_none, take_filled, length_filled, in_one, in_two, same_blocks}
+use Rattle.sha256_block.proofs.PaddingLaws.{last_by_cases}
 use Rattle.sha256_stream.specs.Stream.{worked_in, finished}
-use Rattle.sha256_stream.specs.AbsorbedLaws.{same_field}
+use Rattle.sha256_stream.proofs.AbsorbedLaws.{same_field}
 use Rattle.sha256_stream.proofs.Absorbing.{length_begun}
 
 -- ---- the bytes of the words

@@ -1,4 +1,3 @@
--- What a stream makes of any hash, what a hash holds after a message, and the laws between the two, for other crates to cite.
+-- What a stream makes of any hash, and what a hash holds after a message; the laws between the two stand in proofs/, for other crates to cite.
 pub mod Stream
 pub mod Absorbed
-pub mod AbsorbedLaws

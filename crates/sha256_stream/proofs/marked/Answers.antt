@@ -2,7 +2,7 @@
 use Rattle.std.proofs.Common.{◌≡◌, ◌+◌, [], ◌∷◌, ◌++◌, length, take, set, sym, ap, ◌∙◌, add-one, arith, length-append, length-set, length-take-le, take-take, take-suc-set, rules}
 use lib.Seq.{take-set-le}
 use Rattle.sha256_block.specs.PaddingCases.{zero_filled}
-use Rattle.sha256_block.specs.PaddingCasesLaws.{filled_self, filled_more, take_filled}
+use Rattle.sha256_block.proofs.PaddingCasesLaws.{filled_self, filled_more, take_filled}
 use Rattle.sha256_stream.proofs.marked.Goals as goal
 
 pub loop-i-init : goal.loop-i-init

@@ -1,7 +1,7 @@
 -- The digest of a message taken in one part, by the laws of Absorbed.
 use Rattle.std.proofs.Common.{[], ap, ◌∙◌}
 use Rattle.sha256_stream.specs.Stream.{started, absorbed, finished}
-use Rattle.sha256_stream.specs.AbsorbedLaws.{absorbed_none, absorbed_more, finished-absorbed}
+use Rattle.sha256_stream.proofs.AbsorbedLaws.{absorbed_none, absorbed_more, finished-absorbed}
 use Rattle.sha256_stream.proofs.of.Goals as goal
 
 pub returns : goal.returns

@@ -12,8 +12,8 @@ use Rattle.lemmas.specs.BigEndian.{big_endian, digit}
 use Rattle.lemmas.specs.BinaryLaws.{bits_mod}
 use Rattle.sha256_block.specs.declared.State.{State}
 use Rattle.sha256_block.specs.Sha256.{compress, blocks, padding, pad, bytes, sha256, H₀}
-use Rattle.sha256_block.specs.PaddingCasesLaws.{same_blocks}
-use Rattle.sha256_block.specs.PaddingLaws.{last_by_cases}
+use Rattle.sha256_block.proofs.PaddingCasesLaws.{same_blocks}
+use Rattle.sha256_block.proofs.PaddingLaws.{last_by_cases}
 use Rattle.sha256_block.proofs.Compression.{blocks_suc, blocks-add}
 use Rattle.sha256_stream.specs.declared.Hash.{Hash}
 use Rattle.sha256_stream.specs.Stream.{started, held_with, worked_in, pending_after, absorbed, finished}

@@ -17,7 +17,7 @@ use Rattle.lemmas.specs.Tests.{◌is◌, first_passes, none_before}
 use Rattle.sha256_block.specs.Sha256.{zero_bits, padding_bits, padding, pad}
 use Rattle.sha256_block.specs.PaddingCases.{last_blocks, in_whole, pad_by_cases}
 use Rattle.sha256_block.specs.Padding.{Standard, PaddedMessage}
-use Rattle.sha256_block.specs.PaddingCasesLaws.{filled_none, filled_is, in_one, in_two, length_last}
+use Rattle.sha256_block.proofs.PaddingCasesLaws.{filled_none, filled_is, in_one, in_two, length_last}
 
 -- a message has one padding
 pub one_padding : (M P Q : List ℕ) (j k : ℕ) → Standard M P j → Standard M Q k → P ≡ Q
