@@ -1,7 +1,7 @@
 -- A record is decoded from what was read of the bytes lent, which is the record itself only where it is all there. s: the
 -- bytes lent; size: how many the record has; long: how many it has by its own mark.
 use mathlib.Core.Path.{◌≡◌, refl, sym, ap, ◌∙◌}
-use mathlib.Core.Bool.{◌||◌, Bool, cond, false, not, true, true≢false}
+use mathlib.Core.Bool.{◌||◌, Bool, cond, false, true, true≢false}
 use mathlib.Core.List.{List}
 use Prim.Native.Nat.{ℕ, ◌+◌, ◌≤◌}
 use native.Mathlib.Omega.{arith}

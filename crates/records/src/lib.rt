@@ -21,7 +21,7 @@ const NUMBER_SIZE: usize = 4;
 
 // A credential without what is the same in each: mark and zero byte. The order is that of include/sievelast_records.h.
 #[repr(C)]
-#[derive(Drop)]
+#[derive(Clone, Copy)]
 pub struct CredentialFields {
     pub expiry: u64,
     pub object: u32,
@@ -37,7 +37,7 @@ pub struct CredentialFields {
 
 // A request without its mark, and without the member of a group's; n is its data's length. The order is the header's.
 #[repr(C)]
-#[derive(Drop)]
+#[derive(Clone, Copy)]
 pub struct RequestFields {
     pub time: u64,
     pub count: u32,
@@ -50,14 +50,14 @@ pub struct RequestFields {
 
 // A record as it was read: row 0 and its fields; or row 28 and zeros.
 #[repr(C)]
-#[derive(Drop)]
+#[derive(Clone, Copy)]
 pub struct CredentialDecoded {
     pub row: u64,
     pub fields: CredentialFields,
 }
 
 #[repr(C)]
-#[derive(Drop)]
+#[derive(Clone, Copy)]
 pub struct RequestDecoded {
     pub row: u64,
     pub fields: RequestFields,
@@ -65,7 +65,7 @@ pub struct RequestDecoded {
 
 // A group's request as it was read, its member too.
 #[repr(C)]
-#[derive(Drop)]
+#[derive(Clone, Copy)]
 pub struct GroupRequestDecoded {
     pub row: u64,
     pub fields: RequestFields,
@@ -74,7 +74,7 @@ pub struct GroupRequestDecoded {
 
 // A look's result as it was read, and that of a raise or a create: row 0 and the numbers; or row 28 and zeros.
 #[repr(C)]
-#[derive(Drop)]
+#[derive(Clone, Copy)]
 pub struct LookDecoded {
     pub row: u64,
     pub size: u32,
@@ -82,7 +82,7 @@ pub struct LookDecoded {
 }
 
 #[repr(C)]
-#[derive(Drop)]
+#[derive(Clone, Copy)]
 pub struct VersionDecoded {
     pub row: u64,
     pub version: u32,

@@ -1,5 +1,5 @@
 // The client end for the cutting solver, which is written in C: frame builder and reply check here, the records' encoders and
-// decoders in `codec`. include/sievelast.h declares all of them.
+// decoders in `codec`. The crate `solver_c` exports all of them.
 #![tactic(auto)]
 
 ghost use Rattle.std.specs.Prelude.{◌≡◌};
@@ -25,8 +25,7 @@ pub struct ReplyChecked {
 }
 
 // Writes a frame at the start of `space`, from credential, request and data, under the credential key.
-#[unsafe(no_mangle)]
-pub extern "C" fn sievelast_build(
+pub fn sievelast_build(
     credential: &[u8],
     request: &[u8],
     bytes: &[u8],
@@ -43,13 +42,7 @@ pub extern "C" fn sievelast_build(
 }
 
 // Finds the result in a reply to that credential and request, under the credential key.
-#[unsafe(no_mangle)]
-pub extern "C" fn sievelast_check(
-    credential: &[u8],
-    request: &[u8],
-    key: &[u8],
-    reply: &[u8],
-) -> ReplyChecked
+pub fn sievelast_check(credential: &[u8], request: &[u8], key: &[u8], reply: &[u8]) -> ReplyChecked
     ensures { result ≡ checked_of credential.now request.now key.now reply.now }
 {
     let mut row: u32 = 0;

@@ -4,7 +4,6 @@ use mathlib.Core.Bool.{◌||◌, Bool, cond, false, true}
 use mathlib.Core.List.{List, []}
 use Prim.Native.Nat.{ℕ}
 use lib.ListN.{length}
-use borrow.Author.Rules.{rules}
 use Rattle.lemmas.specs.Tests.{◌isnt◌}
 use Rattle.rules.specs.declared.Credential.{Credential}
 use Rattle.rules.specs.Frame.{credential_at, credential_length, credential_of, credential_size}
@@ -12,8 +11,7 @@ use Rattle.fields.specs.Records.{credential_most, credential_in}
 use Rattle.records.specs.declared.CredentialDecoded.{CredentialDecoded}
 use Rattle.records.specs.Coding.{credential_decoded, credential_fields, credential_unmarked, no_credential}
 use Rattle.records.proofs.DecodeLaws.{decoded_by}
-use Rattle.records.proofs.decode_credential.Statement.{statement}
-use Rattle.records.proofs.decode_credential.Tie as tie
+use Rattle.records.proofs.decode_credential.Goals as goal
 
 abbrev refusal : CredentialDecoded
 refusal = record { row = 28; fields = no_credential }
@@ -28,20 +26,12 @@ decoded s =
     decoded_by s credential_size (credential_length (credential_at s 0)) (credential_at s 0) (credential_of []) credential_unmarked refusal answer
     (λ e. credential_most (credential_at s 0)) refl
 
-returns-2 : tie.Need-returns-2
-returns-2 c =
-    let r = c.before.before.before.before in
-    rw c.credential-fields.ensures
-    (decoded r.before.before.args.bytes.now r.credential-in.result r.credential-in.ensures false c.before.if1.false)
-
-returns : tie.Need-returns
+pub returns : goal.returns
 returns c =
-    let r = c.before.before.before.before in
-    rw c.no-credential.ensures
-    (decoded r.before.before.args.bytes.now r.credential-in.result r.credential-in.ensures true c.before.if1.true)
+    rw c.credential_fields.ensures
+    (decoded c.args.bytes.now c.credential_in-c.result c.credential_in-c.ensures false c.if-bytes-c.false)
 
-pub decode-credential-spec : {M : Type 1} → statement M
-decode-credential-spec =
-    tie.close
-    (tie.spec
-    (λ c κs. search rules) (λ c κs. search rules) returns (λ c κs. search rules) returns-2)
+pub returns-then-bytes-c : goal.returns-then-bytes-c
+returns-then-bytes-c c =
+    rw c.no_credential.ensures
+    (decoded c.args.bytes.now c.credential_in-c.result c.credential_in-c.ensures true c.if-bytes-c.true)

@@ -4,7 +4,6 @@ use mathlib.Core.Bool.{◌||◌, Bool, cond, false, true}
 use mathlib.Core.List.{List, []}
 use Prim.Native.Nat.{ℕ}
 use lib.ListN.{length}
-use borrow.Author.Rules.{rules}
 use Rattle.lemmas.specs.Tests.{◌isnt◌}
 use Rattle.rules.specs.declared.Request.{Request}
 use Rattle.rules.specs.Frame.{group_magic, group_request_size, request_at, request_length, request_of}
@@ -12,8 +11,7 @@ use Rattle.fields.specs.Records.{request_in}
 use Rattle.records.specs.declared.GroupRequestDecoded.{GroupRequestDecoded}
 use Rattle.records.specs.Coding.{group_request_decoded, no_request, request_fields, request_unmarked}
 use Rattle.records.proofs.DecodeLaws.{decoded_by, request_long}
-use Rattle.records.proofs.decode_group_request.Statement.{statement}
-use Rattle.records.proofs.decode_group_request.Tie as tie
+use Rattle.records.proofs.decode_group_request.Goals as goal
 
 abbrev refusal : GroupRequestDecoded
 refusal = record { row = 28; fields = no_request; member = 0 }
@@ -28,20 +26,12 @@ decoded s =
     decoded_by s group_request_size (request_length (request_at s 0)) (request_at s 0) (request_of []) (request_unmarked group_magic) refusal answer
     (request_long group_magic (request_at s 0)) refl
 
-returns-2 : tie.Need-returns-2
-returns-2 c =
-    let r = c.before.before.before in
-    rw c.request-fields.ensures
-    (decoded r.before.before.args.bytes.now r.request-in.result r.request-in.ensures false c.before.if1.false)
-
-returns : tie.Need-returns
+pub returns : goal.returns
 returns c =
-    let r = c.before.before.before in
-    rw c.no-request.ensures
-    (decoded r.before.before.args.bytes.now r.request-in.result r.request-in.ensures true c.before.if1.true)
+    rw c.request_fields.ensures
+    (decoded c.args.bytes.now c.request_in-q.result c.request_in-q.ensures false c.if-bytes-q.false)
 
-pub decode-group-request-spec : {M : Type 1} → statement M
-decode-group-request-spec =
-    tie.close
-    (tie.spec
-    (λ c κs. search rules) (λ c κs. search rules) returns (λ c κs. search rules) returns-2)
+pub returns-then-bytes-q : goal.returns-then-bytes-q
+returns-then-bytes-q c =
+    rw c.no_request.ensures
+    (decoded c.args.bytes.now c.request_in-q.result c.request_in-q.ensures true c.if-bytes-q.true)
