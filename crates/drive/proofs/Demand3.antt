@@ -9,7 +9,6 @@ use Rattle.lemmas.specs.Lists.{part}
 use Rattle.lemmas.specs.RowTable.{first_row}
 use Rattle.rules.specs.Demands as rules
 use Rattle.rules.specs.Demands.{Agrees, answer, call_fields, State}
-use Rattle.rules.specs.Drive.{format}
 use Rattle.rules.specs.Gate.{Call}
 use Rattle.rules.specs.Ledger.{bare_scope, bytes_of, clocked, Ledger, ledger, ledger_group, ledger_scope, ledger_start}
 use Rattle.rules.specs.Rows.{bounds}

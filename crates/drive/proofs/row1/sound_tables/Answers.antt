@@ -5,7 +5,7 @@ use mathlib.Core.List.{List, []}
 use Prim.Native.Nat.{ℕ, ◌+◌, ◌-◌, ◌*◌, ◌≤◌, ◌<◌}
 use native.Mathlib.Omega.{arith}
 use borrow.Rule.Slice.PartMut.{mid_of}
-use lib.ListN.{length, get_or, take, drop, length-take, length-drop}
+use lib.ListN.{length, get_or, drop, length-take, length-drop}
 use lib.Seq.{take_all}
 use borrow.Author.Tests.{le-leb, eq-eqb}
 use Rattle.lemmas.specs.Lists.{every}
@@ -17,21 +17,8 @@ use Rattle.state.specs.Table.{count_at, table_size, partition_view}
 use Rattle.drive.specs.View.{objects_fit, tables_in}
 use Rattle.drive.proofs.Tables.{tables_at, tables-length}
 use borrow.Author.Rules.{rules}
-use Rattle.drive.proofs.row1.sound_tables.Statement.{statement}
-use Rattle.drive.proofs.row1.sound_tables.Tie as tie
 use Rattle.keyring.specs.Keys.{partition_count}
-
-abbrev invariant-loop : tie.invariant-loop
-invariant-loop tables quarter r₀ i₀ r i =
-    (i ≤ partition_count) × (r ≡ every (λ (t : List ℕ). sound_partition quarter (partition_view t)) (take i (tables_in partition_count tables)))
-    × (r ≡ true → every objects_fit (take i (tables_in partition_count tables)) ≡ true)
-
-abbrev decreases-loop : tie.decreases-loop
-decreases-loop tables quarter r₀ i₀ r i = partition_count - i
-
-loop-holds : tie.Need-loop-init invariant-loop decreases-loop
-unfolding every
-loop-holds c = (search rules, refl, λ h. refl)
+use Rattle.drive.proofs.row1.sound_tables.Goals as goal
 
 -- the part lent is the table
 the-table : (l : List ℕ) (i : ℕ) → i < partition_count → length l ≡ partition_count * table_size
@@ -43,16 +30,20 @@ the-table l i h e =
     let b = length-drop (table_size * i) l in
     (ap (λ (n : ℕ). mid_of (table_size * i) n l) k ∙ sym (tables_at partition_count i l h), omega arith)
 
-loop-again : tie.Need-loop-preserved invariant-loop decreases-loop
-loop-again c =
-    let l = c.before.before.before.loop in
-    let a = c.before.before.before.before.before.args in
-    let s = c.sound-table in
+pub loop-i-init : goal.loop-i-init
+unfolding every
+loop-i-init c = (search rules, refl, λ h. refl)
+
+pub loop-i-preserved : goal.loop-i-preserved
+loop-i-preserved c =
+    let l = c.loop-i in
+    let a = c.args in
+    let s = c.sound_table-r in
     let T = tables_in partition_count a.tables.now in
     let n = tables-length partition_count a.tables.now in
     let low : l.i < partition_count = omega arith in
     let h : l.i < length T = omega arith in
-    let it = the-table a.tables.now l.i low c.before.before.before.before.before.requires in
+    let it = the-table a.tables.now l.i low c.requires in
     let sound : s.result ≡ sound_partition a.quarter (partition_view (get_or T l.i [])) =
     s.ensures.0 ∙ rw (eq-eqb _ table_size it.1) (ap (λ (t : List ℕ). sound_partition a.quarter (partition_view t)) it.0) in
     let fewer : s.result ≡ true → get_or (get_or T l.i []) count_at 0 ≤ most_objects =
@@ -63,18 +54,11 @@ loop-again c =
           (both (l.invariant.2 (and_l l.r s.result e)) (le-leb (get_or (get_or T l.i []) count_at 0) most_objects (fewer (and_r l.r s.result e)))),
     )
 
-returns : tie.Need-returns invariant-loop decreases-loop
+pub returns : goal.returns
 returns c =
-    let l = c.before.loop in
-    let a = c.before.before.before.args in
+    let l = c.loop-i in
+    let a = c.args in
     let T = tables_in partition_count a.tables.now in
     let n = tables-length partition_count a.tables.now in
     let all = take_all l.i T (omega arith) in
     ((rw all at l.invariant.1) ∙ every_mapped (sound_partition a.quarter) partition_view T, λ e. rw all at (l.invariant.2 e))
-
-pub sound-tables-spec : {M : Type 1} → statement M
-sound-tables-spec =
-    tie.close
-    (tie.spec
-    invariant-loop decreases-loop loop-holds (λ c. search rules) (λ c. search rules) (λ c. search rules) (λ c. search rules) (λ c. search rules)
-    (λ c. search rules) (λ c κs. search rules) (λ c. search rules) (λ c. search rules) loop-again returns)

@@ -13,9 +13,7 @@ use Rattle.lemmas.specs.Tests.{◌isnt◌, or_l, or_r}
 use Rattle.rules.specs.Drive.{Formatted, format, format_rows, new_drive, new_tables, no_drive}
 use Rattle.keyring.specs.Keys.{keys_in}
 use Rattle.keyring.specs.KeyLaws.{keys_none, fresh_set}
-use borrow.Author.Rules.{rules}
-use Rattle.drive.proofs.format.Statement.{statement}
-use Rattle.drive.proofs.format.Tie as tie
+use Rattle.drive.proofs.format.Goals as goal
 
 module _ (m : List ℕ) (F : ℕ) (master key : List ℕ) where
   refused : (row : ℕ) → row ≡ first_row (format_rows m F master key) → (row ≡ 0 → ⊥)
@@ -39,35 +37,28 @@ module _ (m : List ℕ) (F : ℕ) (master key : List ℕ) where
         eqb-true (length key) 32 (not-false (eqb (length key) 32) (or_r (length master isnt 32) (length key isnt 32) no)),
       )
 
-returns : tie.Need-returns
+pub returns-then-row-ne0 : goal.returns-then-row-ne0
 unfolding format_rows
-returns c =
-    let a = c.before.before.before.before.before.before.args in
-    let row = c.before.before.format-row in
-    let e = refused a.medium.now a.first a.master.now a.key.now row.result row.ensures c.before.if1.true in
+returns-then-row-ne0 c =
+    let a = c.args in
+    let row = c.format_row-row in
+    let e = refused a.medium.now a.first a.master.now a.key.now row.result row.ensures c.if-row-ne0.true in
     record {
       row = ap (λ (x : Formatted). x.row) (sym e);
-      drive = (rw keys_none at c.new-drive.ensures) ∙ ap (λ (x : Formatted). x.drive) (sym e);
+      drive = (rw keys_none at c.new_drive-drive.ensures) ∙ ap (λ (x : Formatted). x.drive) (sym e);
       medium = ap (λ (x : Formatted). x.medium) (sym e);
     }
 
-returns-2 : tie.Need-returns-2
+pub returns : goal.returns
 unfolding format_rows
-returns-2 c =
-    let a = c.before.before.before.before.before.before.before.before.before.before.before.args in
-    let zero = sym c.before.before.before.before.before.before.if1.false ∙ c.before.before.before.before.before.before.before.format-row.ensures in
+returns c =
+    let a = c.args in
+    let zero = sym c.if-row-ne0.false ∙ c.format_row-row.ensures in
     let e = made a.medium.now a.first a.master.now a.key.now zero in
     let long = lent a.medium.now a.first a.master.now a.key.now zero in
-    let keys = ap keys_in c.before.new-keys.ensures ∙ fresh_set a.master.now a.key.now long.0 long.1 in
+    let keys = ap keys_in c.new_keys-keys.ensures ∙ fresh_set a.master.now a.key.now long.0 long.1 in
     record {
       row = ap (λ (x : Formatted). x.row) (sym e);
-      drive = (rw keys at c.new-drive2.ensures) ∙ ap (λ (x : Formatted). x.drive) (sym e);
-      medium = c.before.before.before.before.clear-all.ensures ∙ ap (λ (x : Formatted). x.medium) (sym e);
+      drive = (rw keys at c.new_drive-drive-2.ensures) ∙ ap (λ (x : Formatted). x.drive) (sym e);
+      medium = c.clear_all.ensures ∙ ap (λ (x : Formatted). x.medium) (sym e);
     }
-
-pub format-spec : {M : Type 1} → statement M
-format-spec =
-    tie.close
-    (tie.spec
-    (λ c κs. search rules) (λ c κs. search rules) returns (λ c κs. search rules) (λ c κs. search rules) (λ c κs. search rules)
-    (λ c. search rules) returns-2)

@@ -8,27 +8,20 @@ use Rattle.lemmas.specs.Lists.{part}
 use Rattle.wire.specs.Parse.{numbers_of}
 use Rattle.judge.specs.Judge.{list_row}
 use borrow.Author.Rules.{rules}
-use Rattle.drive.proofs.admission.group_row.Statement.{statement}
-use Rattle.drive.proofs.admission.group_row.Tie as tie
+use Rattle.drive.proofs.admission.group_row.Goals as goal
 
-mul-base : tie.Need-overflow-mul-base
-mul-base c =
-    let a = c.before.before.args in
+pub overflow_mul-base : goal.overflow_mul-base
+overflow_mul-base c =
+    let a = c.args in
     let small : a.c.partition * (a.size / 4) ≤ 3 * 4194304 = mul-le-mul {n₁ = a.c.partition} {m₁ = a.size / 4} {n₂ = 3} {m₂ = 4194304} (omega arith) (omega arith) in
     search rules
 
-returns : tie.Need-returns
+pub returns : goal.returns
 unfolding part
 returns c =
-    let a = c.before.before.before.before.before.before.before.args in
+    let a = c.args in
     let o = a.found.object in
     let from : ℕ = a.c.partition * (a.size / 4) + o.start in
     let e : from + o.size - from ≡ o.size = omega arith in
-    c.list-row.ensures
+    c.list_row.ensures
     ∙ ap (λ (n : ℕ). list_row (take n (drop from a.medium.now)) (numbers_of a.request)) e
-
-pub group-row-spec : {M : Type 1} → statement M
-group-row-spec =
-    tie.close
-    (tie.spec
-    (λ c. search rules) (λ c. search rules) mul-base (λ c. search rules) (λ c. search rules) (λ c. search rules) (λ c. search rules) (λ c. search rules) (λ c. search rules) (λ c. search rules) (λ c. search rules) (λ c κs. search rules) returns)
