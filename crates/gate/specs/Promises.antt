@@ -1,7 +1,7 @@
 -- What the program's functions promise, round by round, and what all rounds do from a freshly formatted drive. The bytes that
 -- the reads brought and those that were handed to write are known by two logs (`Logged`), as far as these have room.
 -- t, r: the state before and after. m: the medium. buf: the input buffer. inlog, outlog: the logs of input and output.
-use Rattle.std.specs.Prelude.{◌≡◌, ◌⊎◌, Bool, true, false, List, [], ◌∷◌, ◌++◌, ℕ, ◌+◌, ◌*◌, ◌≤◌, ◌<◌, eqb, length, drop}
+use Rattle.std.specs.Prelude.{◌≡◌, Bool, true, false, List, [], ◌∷◌, ◌++◌, ℕ, ◌+◌, ◌*◌, ◌≤◌, ◌<◌, eqb, length, drop}
 use Rattle.rules.specs.Program.{answered, cut, formatted, lines_from, most_frame, printed, prints, program, reply_size}
 use Rattle.drive.specs.Chain.{state_of}
 use Rattle.logged.specs.Log.{Logged}

@@ -1,7 +1,7 @@
 -- Laws of the rounds: what a round adds, and what the whole run comes to.
-use Rattle.std.specs.Prelude.{◌≡◌, refl, Bool, true, false, cond, List, [], ◌∷◌, ◌++◌, map, ℕ, ◌+◌, ◌-◌, ◌≤◌, ◌<◌, eqb, length, take, drop}
+use Rattle.std.specs.Prelude.{◌≡◌, refl, Bool, true, false, cond, List, [], ◌++◌, map, ℕ, ◌+◌, ◌-◌, ◌≤◌, ◌<◌, eqb, length, take, drop}
 use Rattle.std.proofs.Common.{sym, ap, subst, ◌∙◌, true≢false, append_assoc, append-nil, arith, length-append, length-drop, length-take-le, eq-eqb, eqb-true, ne_eqb}
-use Rattle.std.proofs.lemmas.Bool.{false≢true, eqb-false}
+use Rattle.std.proofs.lemmas.Bool.{eqb-false}
 use Rattle.lemmas.specs.Tests.{◌is◌}
 use Rattle.rules.specs.Gate.{Call}
 use Rattle.rules.specs.Demands.{State, after}
@@ -24,7 +24,6 @@ use Rattle.drive.specs.declared.Drive.{Drive}
 use Rattle.drive.specs.Chain.{state_of}
 use Rattle.logged.specs.Log.{Added, Logged, logged_more, logged_none}
 use Rattle.reader.specs.declared.Batch.{Batch}
-use Rattle.reader.specs.declared.Intake.{Intake}
 use Rattle.reader.specs.declared.Outcome.{Outcome}
 use Rattle.reader.specs.declared.Outcome.TheVariants.{Running, Ended, Malformed, Unread}
 use Rattle.reader.specs.Promises.{between, goes_on, NextMet, nothing_read, pending_in, room_for}
@@ -32,7 +31,7 @@ use Rattle.reader.specs.Made.{answered_both, front-answers, length-answered}
 use Rattle.reader.specs.Session.{next_grows, Session, session_next, session_none, session-whole, WholeInput}
 use Rattle.gate.specs.declared.LoopState.{LoopState}
 use Rattle.gate.specs.Lines.{lines_both, lines_of_lem}
-use Rattle.gate.specs.Promises.{ended_as, has_ended, LastLine, lines_of, Progress, Reached, RoundMet, RunMet, ServeMet}
+use Rattle.gate.specs.Promises.{ended_as, has_ended, LastLine, lines_of, Progress, Reached, RoundMet, RunMet}
 
 -- ---- the start
 pub progress_none : (d : Drive) (m buf inlog outlog : List ℕ) → state_of d m ≡ formatted

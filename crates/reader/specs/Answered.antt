@@ -1,7 +1,7 @@
 -- One call as a program makes it, in the rules' words. The gate sees no more of a reply space than its length, so the space
 -- may hold the last reply. d: a drive. m: a medium. f: a frame. s, t, x: reply spaces.
 use Rattle.std.specs.Prelude.{◌≡◌, refl, Bool, true, false, cond, List, ℕ, length}
-use Rattle.std.proofs.Common.{sym, ap, ◌∙◌}
+use Rattle.std.proofs.Common.{sym, ◌∙◌}
 use Rattle.std.proofs.lemmas.List.{length-replicate}
 use Rattle.lemmas.specs.Tests.{◌is◌}
 use Rattle.lemmas.specs.RowTable.{first_row}

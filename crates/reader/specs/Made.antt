@@ -1,7 +1,7 @@
 -- Laws: a list of calls is made one call after the other, and the records of an input are taken one after the other.
 -- s: drive and medium. x: a reply space. cs: the calls so far.
 use Rattle.std.specs.Prelude.{◌≡◌, refl, true, false, List, [], ◌∷◌, ◌++◌, map, ℕ, suc, ◌+◌, ◌-◌, ◌≤◌, ◌<◌, length, take, drop, set}
-use Rattle.std.proofs.Common.{sym, ap, subst, ◌∙◌, append_assoc, append-nil, arith, length-append, length-drop, drop-drop, take_at}
+use Rattle.std.proofs.Common.{sym, ap, subst, ◌∙◌, append_assoc, append-nil, arith, length-append, drop-drop, take_at}
 use Rattle.std.proofs.lemmas.List.{length-map}
 use Rattle.lemmas.specs.ListLaws.{map-append}
 use Rattle.lemmas.specs.Fronts.{front_store, with_front}

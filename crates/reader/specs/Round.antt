@@ -1,26 +1,13 @@
 -- Laws of one round: from what filling the buffer and answering did to what the round did.
-use Rattle.std.specs.Prelude.{◌≡◌, refl, true, false, List, [], ◌++◌, ℕ, ◌+◌, ◌-◌, ◌≤◌, length, take, drop}
+use Rattle.std.specs.Prelude.{◌≡◌, refl, false, List, [], ℕ, ◌+◌, ◌-◌, ◌≤◌, length, take, drop}
 use Rattle.std.proofs.Common.{sym, ap, subst, ◌∙◌, arith, length-drop, length-take, drop_at, drop-drop, length-take-le, take-add}
-use Rattle.rules.specs.Gate.{Call}
 use Rattle.rules.specs.Program.{calls_of, left_of}
 use Rattle.drive.specs.declared.Drive.{Drive}
-use Rattle.reader.specs.declared.Batch.{Batch}
 use Rattle.reader.specs.declared.Intake.{Intake}
 use Rattle.reader.specs.declared.Outcome.{Outcome}
 use Rattle.reader.specs.declared.Outcome.TheVariants.{Running}
 use Rattle.reader.specs.declared.answers.Answers.{Answers}
-use Rattle.reader.specs.Promises.{
-  AnswerMet,
-  between,
-  CallsMade,
-  FillMet,
-  goes_on,
-  NextMet,
-  pending_in,
-  room_for,
-  room_in,
-  OutcomeMet,
-}
+use Rattle.reader.specs.Promises.{AnswerMet, between, FillMet, goes_on, NextMet, pending_in, room_for, OutcomeMet}
 use Rattle.reader.specs.Made.{made_none}
 
 -- a part of a buffer without its first bytes

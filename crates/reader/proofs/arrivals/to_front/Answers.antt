@@ -1,22 +1,14 @@
 -- The loop's invariant: the bytes moved are at the front, and none after them has changed.
 use mathlib.Core.Path.{◌≡◌, refl, sym, ap, ap₂, ◌∙◌}
 use mathlib.Core.List.{List, ◌++◌}
-use Prim.Native.Nat.{ℕ, ◌+◌, ◌-◌, ◌≤◌, ◌<◌}
+use Prim.Native.Nat.{ℕ, ◌+◌, ◌<◌}
 use native.Mathlib.Nat.{add_comm}
 use native.Mathlib.Numerals.{add-one}
 use native.Mathlib.Omega.{arith}
 use lib.ListN.{length, get_or, set, take, drop, length-set, take-append-drop, length-drop}
 use lib.Seq.{take-suc, take-suc-set, drop-set-lt, drop-drop, get_or-drop, length-take-le}
 use Rattle.lemmas.specs.Lists.{part, splice}
-use Rattle.reader.proofs.arrivals.to_front.Statement.{statement}
-use Rattle.reader.proofs.arrivals.to_front.Tie as tie
-
-abbrev invariant-loop : tie.invariant-loop
-invariant-loop buf₀ from n i₀ buf i =
-    (i ≤ n) × (length buf ≡ length buf₀) × (take i buf ≡ take i (drop from buf₀)) × (drop i buf ≡ drop i buf₀)
-
-abbrev decreases-loop : tie.decreases-loop
-decreases-loop buf₀ from n i₀ buf i = n - i
+use Rattle.reader.proofs.arrivals.to_front.Goals as goal
 
 -- the next byte to move has not been written over
 unmoved : (s t : List ℕ) (from i : ℕ) → drop i s ≡ drop i t → get_or s (from + i) 0 ≡ get_or (drop from t) i 0
@@ -44,24 +36,24 @@ behind s t i x e =
     ∙ ap (λ (l : List ℕ). drop 1 l) e
     ∙ drop-drop 1 i t
 
-loop-holds : tie.Need-loop-init invariant-loop decreases-loop
-loop-holds c = (omega arith, refl, refl, refl)
+pub loop-i-init : goal.loop-i-init
+loop-i-init c = (omega arith, refl, refl, refl)
 
-loop-again : tie.Need-loop-preserved invariant-loop decreases-loop
-loop-again c =
-    let l = c.before.before.loop in
-    let a = c.before.before.before.args in (
+pub loop-i-preserved : goal.loop-i-preserved
+loop-i-preserved c =
+    let l = c.loop-i in
+    let a = c.args in (
       omega arith,
       simp length-set l.invariant.1,
       moved l.buf a.buf.now a.from l.i (omega arith) l.invariant.1 l.invariant.2 l.invariant.3,
       behind l.buf a.buf.now l.i (get_or l.buf (a.from + l.i) 0) l.invariant.3,
     )
 
-returns : tie.Need-returns invariant-loop decreases-loop
+pub returns : goal.returns
 unfolding splice part
 returns c =
-    let l = c.before.loop in
-    let a = c.before.before.args in
+    let l = c.loop-i in
+    let a = c.args in
     let e : l.i ≡ a.n = omega arith in
     let front : take a.n l.buf ≡ take a.n (drop a.from a.buf.now) = rw e at l.invariant.2 in
     let back : drop a.n l.buf ≡ drop a.n a.buf.now = rw e at l.invariant.3 in
@@ -70,10 +62,3 @@ returns c =
     let k : a.n ≡ 0 + length (take a.n (drop a.from a.buf.now)) = omega (arith, size) in
     sym (take-append-drop a.n l.buf)
     ∙ ap₂ (λ (p q : List ℕ). p ++ q) front (back ∙ ap (λ (j : ℕ). drop j a.buf.now) k)
-
-pub to-front-spec : {M : Type 1} → statement M
-to-front-spec =
-    tie.close
-    (tie.spec
-    invariant-loop decreases-loop loop-holds (λ c. omega arith) (λ c. omega arith) (λ c. omega arith) (λ c. omega arith)
-    (λ c. omega arith) loop-again (λ c. omega arith) returns)

@@ -1,0 +1,11 @@
+-- The loop's invariant: the bytes moved are at the front, and none after them has changed.
+use mathlib.Core.Path.{◌≡◌}
+use Prim.Native.Nat.{◌-◌, ◌≤◌}
+use lib.ListN.{length, take, drop}
+use Rattle.reader.proofs.arrivals.to_front.Given as goal
+
+abbrev pub invariant-loop-i : goal.invariant-loop-i
+invariant-loop-i l = (l.i ≤ l.n) × (length l.buf ≡ length l.initial.buf) × (take l.i l.buf ≡ take l.i (drop l.from l.initial.buf)) × (drop l.i l.buf ≡ drop l.i l.initial.buf)
+
+abbrev pub decreases-loop-i : goal.decreases-loop-i
+decreases-loop-i l = l.n - l.i
