@@ -1,3 +1,2 @@
--- The whole reply in its space, and that it is the rules' reply.
+-- The whole reply in its space; that it is the rules' reply stands in proofs/, for other crates to cite.
 pub mod Reply
-pub mod Performed

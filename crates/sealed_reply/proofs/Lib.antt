@@ -1,0 +1,2 @@
+-- That the whole reply is the rules' reply.
+pub mod Performed
