@@ -58,7 +58,7 @@ use Rattle.effect.specs.Performed.{ContextFits, BytesFit, medium_is, reached_by}
 use Rattle.digest.specs.declared.mac.Mac.{Mac}
 use Rattle.digest.specs.Keyed.{Keyed}
 use Rattle.sealed_reply.specs.Reply.{reply_put}
-use Rattle.sealed_reply.specs.Performed.{reply_is}
+use Rattle.sealed_reply.proofs.Performed.{reply_is}
 use Rattle.partition.specs.Applied.{ChangeFits}
 use Rattle.drive.specs.declared.Outcome.{Outcome}
 use Rattle.drive.specs.Admission.{scope_from, scope_answer, grant_context, AdmitRequires, ServeRequires, OutcomeMet}
