@@ -310,8 +310,7 @@ fn run(
     while left > 0 {
         left -= 1;
         let r = trace::next(stdin, t.size, head, frame);
-        let d = t.drive;
-        let tables = d.tables;
+        let tables = t.drive.tables;
         let kind = kind_of(r.kind, tables, head);
         if kind >= trace::END {
             return finish(stdout, out, t.unwritten, kind);

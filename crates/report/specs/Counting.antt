@@ -1,5 +1,5 @@
 -- Laws of counting: a round's calls, counted one after the other by their rows and partitions, are added to the counts.
-use Rattle.std.specs.Prelude.{◌≡◌, refl, true, List, [], ◌∷◌, ◌++◌, map, ℕ, suc, ◌+◌, ◌≤◌, ◌<◌, length, drop, get_or}
+use Rattle.std.specs.Prelude.{◌≡◌, true, List, [], ◌∷◌, ◌++◌, map, ℕ, suc, ◌+◌, ◌≤◌, ◌<◌, length, drop, get_or}
 use Rattle.std.proofs.Common.{sym, ap, ◌∙◌, append_assoc, append-nil, arith, drop_of_length-le, length-append, drop-cons}
 use Rattle.lemmas.specs.Lists.{every}
 use Rattle.lemmas.specs.Tests.{and_l, and_r}

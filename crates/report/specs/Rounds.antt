@@ -2,24 +2,23 @@
 use Rattle.std.specs.Prelude.{◌≡◌, refl, false, List, [], ◌++◌, map, ℕ, ◌+◌, ◌<◌, length, take}
 use Rattle.std.proofs.Common.{sym, ap, subst, ◌∙◌, true≢false, arith, length-append}
 use Rattle.rules.specs.Gate.{Call}
-use Rattle.rules.specs.Demands.{State, after}
+use Rattle.rules.specs.Demands.{State}
 use Rattle.rules.specs.Program.{AnsweredCall, answered, calls_in, formatted, most_frame, reply_size}
 use Rattle.rules.specs.Report.{counters, count_lines, counts_from, counts_in, report, report_of, total}
 use Rattle.rules.proofs.Counts.{all_countable}
 use Rattle.drive.specs.declared.Drive.{Drive}
 use Rattle.drive.specs.Chain.{state_of}
-use Rattle.logged.specs.Log.{Added, Logged}
+use Rattle.logged.specs.Log.{Added}
 use Rattle.reader.specs.declared.Batch.{Batch}
 use Rattle.reader.specs.declared.Outcome.{Outcome}
 use Rattle.reader.specs.declared.Outcome.TheVariants.{Running, Ended, Malformed, Unread}
 use Rattle.reader.specs.Promises.{goes_on, NextMet, nothing_read, partition_of, pending_in, room_for}
 use Rattle.reader.specs.Made.{answered_both, front-answers, length-answered}
-use Rattle.reader.specs.Session.{calls_fit, next_grows, Session, session_next, session_none, session-whole, WholeInput}
+use Rattle.reader.specs.Session.{calls_fit, next_grows, session_next, session_none, session-whole, WholeInput}
 use Rattle.tally.specs.Laws.{counters_none}
 use Rattle.report.specs.declared.LoopState.{LoopState}
-use Rattle.report.specs.declared.Printed.{Printed}
 use Rattle.report.specs.Counting.{counted_both}
-use Rattle.report.specs.Promises.{counted_all, no_counts, Progress, Reached, Reports, RoundMet, RunMet, ServeMet}
+use Rattle.report.specs.Promises.{counted_all, no_counts, Progress, Reports, RoundMet, RunMet, ServeMet}
 
 -- ---- the start
 none_counted : no_counts ≡ counters (answered formatted [])
