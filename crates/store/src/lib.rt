@@ -1,5 +1,5 @@
 // The drive for a store that is written in C: format, the gate and the issuer, over a record whose parts the caller lends and
-// keeps. include/sievelast_store.h declares them, and the record as one struct.
+// keeps. The crate `store_c` exports them.
 #![tactic(auto)]
 
 ghost use Rattle.std.specs.Prelude.{◌≡◌};
@@ -41,8 +41,7 @@ pub struct KeyedDigest {
 }
 
 // Makes a medium a drive's, and these parts its record; refused, they are the record of a drive that has nothing.
-#[unsafe(no_mangle)]
-pub extern "C" fn sievelast_format_parts(
+pub fn sievelast_format_parts(
     size: &mut usize,
     highwater: &mut u64,
     keys: &mut [u8; KEYS],
@@ -76,8 +75,7 @@ pub extern "C" fn sievelast_format_parts(
 }
 
 // Puts a frame to the drive of these parts at a clock reading.
-#[unsafe(no_mangle)]
-pub extern "C" fn sievelast_gate_parts(
+pub fn sievelast_gate_parts(
     size: usize,
     highwater: &mut u64,
     keys: &mut [u8; KEYS],
@@ -105,12 +103,7 @@ pub extern "C" fn sievelast_gate_parts(
 }
 
 // Writes the 36 bytes of a credential at the start of `space` and returns its key.
-#[unsafe(no_mangle)]
-pub extern "C" fn sievelast_issue(
-    fields: CredentialFields,
-    key: &[u8],
-    space: &mut [u8],
-) -> CredentialIssued
+pub fn sievelast_issue(fields: CredentialFields, key: &[u8], space: &mut [u8]) -> CredentialIssued
     ensures { IssueMet (credential_from fields) key.now space.old (issued_with result.row result.key) space.new }
 {
     let c = records::credential_from(fields);
@@ -123,8 +116,7 @@ pub extern "C" fn sievelast_issue(
 }
 
 // HMAC, for whoever sets keys: a new key is the HMAC of request and seed under the signing slot's key.
-#[unsafe(no_mangle)]
-pub extern "C" fn sievelast_hmac(key: &[u8], message: &[u8]) -> KeyedDigest
+pub fn sievelast_hmac(key: &[u8], message: &[u8]) -> KeyedDigest
     ensures { digest_with result.row result.bytes ≡ hmac_answer key.now message.now }
 {
     let d = digest::hmac(key, message);
