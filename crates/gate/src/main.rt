@@ -5,7 +5,7 @@
 
 ghost use Rattle.std.specs.Prelude.{◌≡◌, cond, ◌+◌, ◌*◌, ◌^◌, ◌≤◌, ◌<◌, length, take};
 ghost use Rattle.rules.specs.Program.{cut, formatted};
-ghost use Rattle.rules.specs.Program.{ended as Program·ended};
+ghost use Rattle.rules.specs.Program.{ended as program_ended};
 ghost use Rattle.lines.specs.Text.{TextPut};
 ghost use Rattle.drive.specs.Chain.{state_of};
 ghost use Rattle.logged.specs.Log.{Added};
@@ -147,7 +147,7 @@ fn has_ended(t: Intake) -> bool
 
 // The last line: `end` where the input has ended behind a whole record, else `cut`.
 fn last_line(out: &mut [u8], ended: bool, calls: u64) -> usize
-    ensures { TextPut out.old 0 (cond ended (Program·ended calls) (cut calls)) result out.new }
+    ensures { TextPut out.old 0 (cond ended (program_ended calls) (cut calls)) result out.new }
 {
     if ended {
         lines::put_end(out, 0, calls)
@@ -166,7 +166,7 @@ fn finish(
     at: usize,
 ) -> usize
     requires { line_size ≤ length out.old }
-    ensures { Added outlog.old at (cond ended (Program·ended calls) (cut calls)) outlog.new result }
+    ensures { Added outlog.old at (cond ended (program_ended calls) (cut calls)) outlog.new result }
 {
     let n = last_line(out, ended, calls);
     let w = logged::write(stdout, &out[..n], outlog, at);

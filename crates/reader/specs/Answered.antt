@@ -9,7 +9,7 @@ use Rattle.rules.specs.Frame.{Fields, fields}
 use Rattle.rules.specs.Drive as rules
 use Rattle.rules.specs.Drive.{refresh}
 use Rattle.rules.specs.Rows.{rows, drive_rows}
-use Rattle.rules.specs.Gate as rules·gate
+use Rattle.rules.specs.Gate as rules_gate
 use Rattle.rules.specs.Scope.{drive_scope}
 use Rattle.rules.specs.Gate.{gate, granted, refused, after_refusal, whole_answer}
 use Rattle.rules.specs.Demands.{answer, step}
@@ -21,7 +21,7 @@ use Rattle.drive.specs.Chain.{state_of}
 use Rattle.drive.specs.Met.{GateMet, call_of}
 
 -- two answers that differ in the reply space at most
-record Alike (a b : rules·gate.Answer rules.Drive) : Type 0 where
+record Alike (a b : rules_gate.Answer rules.Drive) : Type 0 where
   row : a.row ≡ b.row
   length : a.length ≡ b.length
   drive : a.drive ≡ b.drive

@@ -190,7 +190,8 @@ fn play(
         n = t.numbers;
         a = act(a, n, medium, frame, reply);
         player::print_answer(out, n, a.row, a.length, script, reply)?;
-        left = player::lines_left(out, left, n[words::WORD])?;
+        player::print_end(out, left, n[words::WORD])?;
+        left = player::lines_left(left, n[words::WORD]);
     }
     Ok(())
 }

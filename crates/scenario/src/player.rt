@@ -1,5 +1,5 @@
 // Plays one line of the script, but for what the line does to the drive. `words` names the places of the player's numbers.
-ghost use Rattle.std.specs.Prelude.{◌*◌, ◌<◌, ◌≤◌, IfOk};
+ghost use Rattle.std.specs.Prelude.{◌*◌, ◌<◌, ◌≤◌};
 ghost use Rattle.state.specs.Table.{table_size};
 
 use crate::frames::{four, one};
@@ -333,16 +333,21 @@ pub fn print_answer(
     say::answer(out, label, row, script::part(space, 0, length))
 }
 
+// Says that the lines end here, where one more would follow and may not be played.
+pub fn print_end(out: Stdout, left: u64, word: u64) -> io::Result<()> {
+    if (word as usize != words::STOP) & (left == 1) {
+        return say::error(out, b"too many lines");
+    }
+    Ok(())
+}
+
 // How many lines may still be played: one less, and none behind the end.
-pub fn lines_left(out: Stdout, left: u64, word: u64) -> io::Result<u64>
+pub fn lines_left(left: u64, word: u64) -> u64
     requires { 0 < left }
-    ensures { IfOk result (λ r. r < left) }
+    ensures { result < left }
 {
     if word as usize == words::STOP {
-        return Ok(0);
+        return 0;
     }
-    if left == 1 {
-        say::error(out, b"too many lines")?;
-    }
-    Ok(left - 1)
+    left - 1
 }

@@ -247,17 +247,17 @@ known_times zero f Has g h s k = tt
 known_times (suc n) f Has g h s k = (g n s k, known_times n f Has g h (leaves (answer_with s (f n))) (h n s k))
 
 -- a call that sets no key leaves the keys
-abbrev pub sets_aKey : Operation → Bool
-sets_aKey (Read a b) = false
-sets_aKey (Write a b) = false
-sets_aKey Look = false
-sets_aKey Raise = false
-sets_aKey (Create a b) = false
-sets_aKey Delete = false
-sets_aKey (SetKey a) = true
-sets_aKey LoadTable = false
+abbrev pub sets_a_key : Operation → Bool
+sets_a_key (Read a b) = false
+sets_a_key (Write a b) = false
+sets_a_key Look = false
+sets_a_key Raise = false
+sets_a_key (Create a b) = false
+sets_a_key Delete = false
+sets_a_key (SetKey a) = true
+sets_a_key LoadTable = false
 
-keys_after_lem : (o : Operation) (s : Scope Object) (x : Fields) (m : List ℕ) → sets_aKey o ≡ false
+keys_after_lem : (o : Operation) (s : Scope Object) (x : Fields) (m : List ℕ) → sets_a_key o ≡ false
     → (perform o s x m).scope.keys ≡ s.keys
 unfolding perform
 keys_after_lem (Read a b) s x m h = refl
@@ -269,7 +269,7 @@ keys_after_lem Delete s x m h = refl
 keys_after_lem (SetKey a) s x m h = absurd (true≢false h)
 keys_after_lem LoadTable s x m h = refl
 
-pub keys_with : (b : Bool) (d : Drive) (m : List ℕ) (c : Call) → sets_aKey (operation_of (fields c.frame)) ≡ false
+pub keys_with : (b : Bool) (d : Drive) (m : List ℕ) (c : Call) → sets_a_key (operation_of (fields c.frame)) ≡ false
     → (gate_with b d m c).drive.tables.keys ≡ d.tables.keys
 unfolding gate_with granted refresh
 keys_with b d m c h = go (row is 0) (row is 1)
