@@ -43,7 +43,7 @@ def spent(words, path):
 
 
 def make(path, kind, size, level, state, frames, big):
-    """Makes an input, and sees that the gate, by value and lent, grants and refuses what it should. The calls in it."""
+    """Makes an input, and sees that the gate, on a record and on lent parts, grants and refuses what it should. The calls in it."""
     words = [str(w) for w in [FRAMES, path, kind, size, level, state, frames, big]]
     due = subprocess.run(words, check=True, capture_output=True, text=True).stdout
     for process in [GATE_BENCH, LENT]:

@@ -1,5 +1,5 @@
 #!/usr/bin/env python3
-"""What a call of the gate copies, by value and lent: calls of memcpy and their bytes, counted (copies.c) on an input with the
+"""What a call of the gate copies, on a record and on lent parts: calls of memcpy and their bytes, counted (copies.c) on an input with the
 frames and on one without them. Run by bench/gate/copies from the repository's top."""
 
 import os
@@ -32,7 +32,7 @@ def cells(words, kind, state):
 def main():
     rows = [[f"{what}, {state}"] + cells(GATE_BENCH, kind, state) + cells(LENT, kind, state)
             for what, kind in [("look, level 0", "look"), ("refused by row 3", "3")] for state in ["empty", "full"]]
-    tables.table("What a call copies", ["", "by value: copies", "bytes", "lent: copies", "bytes"], rows)
+    tables.table("What a call copies", ["", "on a record: copies", "bytes", "lent: copies", "bytes"], rows)
 
 
 if __name__ == "__main__":

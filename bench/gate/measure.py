@@ -1,5 +1,5 @@
 #!/usr/bin/env python3
-"""The gate against its own hashing, by value and, for looks, refusals and reads through a group, over a record that is lent. For each
+"""The gate against its own hashing, of calls on a record and, for looks, refusals and reads through a group, on lent parts. For each
 case two inputs are made (frames.c), one of them without the frames that are measured, and gate_bench and the programs that it is
 compared with (feed.c) are run on both by turns. A process's time is its processor time on the one input less that on the other, and
 less what the process that only reads takes. A read through a group has two inputs more, of the same read by the log's own
@@ -67,7 +67,7 @@ def ratio(over, under):
 
 def cells(kind, size, level, state):
     """The gate's ns a call, and how often it takes the time of each other; for looks and refusals then the same of the lent gate,
-    over our hashing and over the gate by value."""
+    over our hashing and over the gate on a record."""
     big = BIG if kind in ("read", "write") else max(SMALL, size)
     frames = frames_of(kind, size, level)
     calls = make(INPUT, kind, size, level, state, frames, big) - make(BEFORE, kind, size, level, state, 0, big)
@@ -89,7 +89,7 @@ def cells(kind, size, level, state):
 
 
 HEADS = ["", "ns a call", "over our hashing", "over libcrypto's"]
-LENT_HEADS = HEADS + ["lent: ns a call", "over our hashing", "over by value"]
+LENT_HEADS = HEADS + ["lent: ns a call", "over our hashing", "over a record"]
 
 
 def print_looks():
@@ -105,7 +105,7 @@ def print_moves(kind, sizes):
 
 
 def group_cells(numbers, size, state):
-    """Of reads at level 0 through a group, by value and then lent: ns a call, over our hashing, and how often it takes the time of the
+    """Of reads at level 0 through a group, on a record and then lent: ns a call, over our hashing, and how often it takes the time of the
     same read by the log's own credential."""
     frames = int(SECONDS / (2e-6 + 1e-9 * numbers))
     calls, own = [make(path, f"{kind}{numbers}", size, 0, state, frames, SMALL) - make(before, f"{kind}{numbers}", size, 0, state, 0, SMALL)

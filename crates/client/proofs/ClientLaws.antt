@@ -1,39 +1,32 @@
 -- Laws of the client end's definitions, for the proofs of its code: what a row that is not 0 leaves, and what a row 0 does.
+use Rattle.std.specs.Prelude.{Ok, Err}
 use mathlib.Core.Path.{◌∙◌, ◌≡◌, ap, refl, sym}
 use mathlib.Core.Bool.{◌||◌, Bool, cond, false, not, true}
-use mathlib.Core.List.{[], ◌++◌, append_assoc, append-nil, List}
+use mathlib.Core.List.{[], ◌∷◌, ◌++◌, append_assoc, append-nil, List}
 use Prim.Native.Nat.{◌+◌, ◌≤◌, ℕ}
 use native.Mathlib.Omega.{arith}
 use lib.Dec.{leb}
-use lib.ListN.{length-append, replicate, take, length}
+use lib.ListN.{length-append, take, length}
 use borrow.Author.Tests.{eq-eqb, le-leb, le-ltb, leb-false, leb-true, lt-ltb, ltb-false, ne_eqb}
 use Rattle.lemmas.specs.Layout.{splice_after_size}
 use Rattle.lemmas.specs.Lists.{every, splice}
 use Rattle.lemmas.specs.Parts.{length-splice, splice_front}
-use Rattle.lemmas.specs.RowTable.{applies, first_row, none_applies}
-use Rattle.lemmas.specs.Tests.{◌isnt◌, ◌under◌}
+use Rattle.lemmas.specs.RowTable.{applies, first_row, line, none_applies, Row}
+use Rattle.lemmas.specs.Tests.{◌is◌, ◌isnt◌, ◌under◌}
 use Rattle.digest.specs.Hmac.{hmac}
 use Rattle.rules.specs.declared.Credential.{Credential}
 use Rattle.rules.specs.declared.Request.{Request}
-use Rattle.rules.specs.Client.{bad_records, build, build_rows, built_length, frame_of, issue, issue_rows}
-use Rattle.rules.specs.Frame.{
-  covered,
-  credential_at,
-  credential_bytes,
-  credential_length,
-  credential_size,
-  digest_size,
-  key_size,
-  length-credential,
-  request_at,
-}
+use Rattle.rules.specs.declared.refusal.Refusal.{Refusal}
+use Rattle.rules.specs.Client.{bad_records, build, build_rows, built_length, frame_of, issue, issue_rows, row26}
+use Rattle.rules.specs.Frame.{covered, credential_at, credential_bytes, credential_length, credential_size, digest_size, length-credential, request_at}
+use Rattle.rules.specs.Refusals.{refusal_row}
+use Rattle.rules.proofs.Refused.{row_isnt_zero}
 use Rattle.rules.proofs.RoundTrip.{credential_long, n_is, records, request_long}
 use Rattle.octets.specs.Numbers.{bytes_put}
 use Rattle.fields.specs.Records.{credential_in, request_in, rest_behind, rest_length}
 use Rattle.record_rows.specs.BadRecords.{read_either, request_is_read}
 use Rattle.credential_bytes.specs.Put.{credential_put}
-use Rattle.client.specs.declared.Built.{Built}
-use Rattle.client.specs.declared.Issued.{Issued}
+use Rattle.client.specs.Answers.{built_frame, issued_of}
 use Rattle.client.specs.Met.{BuildMet, IssueMet}
 
 -- ---- bytes that do not fit have too little room
@@ -82,16 +75,11 @@ four-parts s a b p h lh room =
 
 -- ---- the issuer
 module _ (c : Credential) (k s : List ℕ) where
-  pub issue-refused : (row : ℕ) (r : Issued) → row ≡ first_row (issue_rows c k s) → (row ≡ 0 → ⊥)
-      → r ≡ record { row = row; key = replicate key_size 0 }
-      → IssueMet c k s r s
+  pub issue-refused : (e : Refusal) → refusal_row e ≡ first_row (issue_rows c k s) → IssueMet c k s (issued_of (Err e)) s
   unfolding issue
-  issue-refused row r e n h =
-      rw h (record {
-        row = rw (← e, ne_eqb row 0 n) refl;
-        key = rw (← e, ne_eqb row 0 n) refl;
-        space = rw (← e, ne_eqb row 0 n) refl;
-      })
+  issue-refused e row =
+      let late : (first_row (issue_rows c k s) is 0) ≡ false = rw (← row) (row_isnt_zero e) in
+      record { row = rw late row; key = rw late refl; space = rw late refl }
 
   issue-clear : first_row (issue_rows c k s) ≡ 0 → credential_size ≤ length s
   unfolding issue_rows applies every
@@ -102,14 +90,14 @@ module _ (c : Credential) (k s : List ℕ) where
       let h : credential_size ≤ length s = issue-clear e in
       rw (le-leb credential_size (length s) h) (omega (arith, length-splice s (credential_bytes c) 0 (omega (arith, length-credential c)), h))
 
-  pub issue-granted : (r : Issued) → first_row (issue_rows c k s) ≡ 0
-      → r.row ≡ 0 → r.key ≡ hmac k (take credential_size (credential_put s c)) → IssueMet c k s r (credential_put s c)
+  pub issue-granted : (secret : List ℕ) → first_row (issue_rows c k s) ≡ 0
+      → secret ≡ hmac k (take credential_size (credential_put s c)) → IssueMet c k s (issued_of (Ok secret)) (credential_put s c)
   unfolding issue
-  issue-granted r e hr hk =
+  issue-granted secret e hk =
       let put : credential_put s c ≡ splice s 0 (credential_bytes c) = rw (le-leb credential_size (length s) (issue-clear e)) refl in
       let front : take credential_size (splice s 0 (credential_bytes c)) ≡ credential_bytes c = splice_front s (credential_bytes c) credential_size (length-credential c) in
       record {
-        row = hr ∙ rw e refl;
+        row = rw e refl;
         key = hk ∙ ap (λ (l : List ℕ). hmac k (take credential_size l)) put ∙ ap (hmac k) front ∙ rw e refl;
         space = put ∙ rw e refl;
       }
@@ -129,27 +117,35 @@ late_rows a b n space =
     (not_fits (k + rest_length r) space ∙ ap (λ (m : ℕ). space under m) (rest_behind k r))
 
 module _ (a b p k s : List ℕ) where
-  pub build-refused : (row : ℕ) (r : Built) → row ≡ first_row (build_rows a b p k s) → (row ≡ 0 → ⊥)
-      → r ≡ record { row = row; length = 0 }
-      → BuildMet a b p k s r s
+  -- the three rows, of both as they were read
+  abbrev pub rows_read : List Row
+  rows_read =
+      line 26 (row26 k)
+      ∷ line 28 (bad_records a b || (request_in b 0).n isnt length p)
+      ∷ line 29 (not (leb (credential_length (credential_in a 0) + rest_length (request_in b 0)) (length s)))
+      ∷ []
+
+  pub rows_are_read : first_row rows_read ≡ first_row (build_rows a b p k s)
+  unfolding build_rows first_row
+  rows_are_read = ap (cond (row26 k) 26) (late_rows a b (length p) (length s))
+
+  pub build-refused : (e : Refusal) → refusal_row e ≡ first_row (build_rows a b p k s) → BuildMet a b p k s (built_frame (Err e)) s
   unfolding build
-  build-refused row r e n h =
-      rw h (record {
-        row = rw (← e, ne_eqb row 0 n) refl;
-        length = rw (← e, ne_eqb row 0 n) refl;
-        space = rw (← e, ne_eqb row 0 n) refl;
-      })
+  build-refused e row =
+      let late : (first_row (build_rows a b p k s) is 0) ≡ false = rw (← row) (row_isnt_zero e) in
+      record { row = rw late row; length = rw late refl; space = rw late refl }
 
   -- the parts are together as long as the frame
   pub build-length : first_row (build_rows a b p k s) ≡ 0 → length a + length b + length p + digest_size ≡ built_length a b
   build-length e = omega (arith, credential_long a b p k s e, request_long a b p k s e, n_is a b p k s e)
 
-  pub build-granted : (r : Built) (h after : List ℕ) → first_row (build_rows a b p k s) ≡ 0
-      → r.row ≡ 0 → r.length ≡ length a + length b + length p + digest_size
-      → h ≡ hmac k (covered (request_in b 0).level a b p) → after ≡ splice s 0 (a ++ (b ++ (p ++ h))) → BuildMet a b p k s r after
+  pub build-granted : (n : ℕ) (h after : List ℕ) → first_row (build_rows a b p k s) ≡ 0
+      → n ≡ length a + length b + length p + digest_size
+      → h ≡ hmac k (covered (request_in b 0).level a b p) → after ≡ splice s 0 (a ++ (b ++ (p ++ h)))
+      → BuildMet a b p k s (built_frame (Ok n)) after
   unfolding build frame_of
-  build-granted r h after e hr hl hh ha = record {
-    row = hr ∙ rw e refl;
+  build-granted n h after e hl hh ha = record {
+    row = rw e refl;
     length = hl ∙ build-length e ∙ rw e refl;
     space = ha ∙ rw e (ap (λ (d : List ℕ). splice s 0 (a ++ (b ++ (p ++ d)))) (hh ∙ ap (λ (x : Request). hmac k (covered x.level a b p)) (request_is_read a b (records a b p k s e))));
   }

@@ -10,7 +10,7 @@ use Rattle.rules.specs.Frame.{credential_at, credential_length, fields, request_
 use Rattle.rules.proofs.Demand2.{build_zero}
 use Rattle.rules.proofs.RoundTrip.{reads_back}
 use Rattle.wire.specs.Parse.{answer_by, fields_of, frame_row, frame_answer}
-use Rattle.client.specs.declared.Built.{Built}
+use Rattle.client.specs.Answers.{Built}
 use Rattle.client.specs.Met.{BuildMet}
 
 module _ (a b p k s : List ℕ) (r : Built) (after : List ℕ) (m : BuildMet a b p k s r after) (z : r.row ≡ 0) where

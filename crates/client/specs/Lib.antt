@@ -1,2 +1,3 @@
--- What the issuer and the builder promise.
+-- What the issuer and the builder answer and promise.
+pub mod Answers
 pub mod Met

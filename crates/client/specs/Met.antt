@@ -2,8 +2,7 @@
 use Rattle.std.specs.Prelude.{◌≡◌, List, ℕ}
 use Rattle.rules.specs.declared.Credential.{Credential}
 use Rattle.rules.specs.Client as rules
-use Rattle.client.specs.declared.Issued.{Issued}
-use Rattle.client.specs.declared.Built.{Built}
+use Rattle.client.specs.Answers.{Built, Issued}
 
 -- the issuer, of the credential c, the slot's key k and the space s: row, credential key and space, refusals too
 pub record IssueMet (c : Credential) (k s : List ℕ) (r : Issued) (after : List ℕ) : Type 0 where

@@ -8,20 +8,19 @@ ghost use Rattle.credential_bytes.specs.Put.{credential_put};
 pub fn put_credential(c: rules::Credential, space: &mut [u8])
     ensures { space.new ≡ credential_put space.old c }
 {
-    let widths = fields::CREDENTIAL_WIDTHS;
-    let v: [u64; fields::CREDENTIAL_FIELDS] = [
-        c.magic as u64,
-        c.partition as u64,
-        c.slot as u64,
-        c.object as u64,
-        c.version as u64,
-        c.rights as u64,
-        c.least as u64,
-        c.zero as u64,
-        c.first as u64,
-        c.end as u64,
+    let numbers = [
+        u64::from(c.magic),
+        u64::from(c.partition),
+        u64::from(c.slot),
+        u64::from(c.object),
+        u64::from(c.version),
+        u64::from(c.rights),
+        u64::from(c.least),
+        u64::from(c.zero),
+        u64::from(c.first),
+        u64::from(c.end),
         c.expiry,
-        c.holder as u64,
+        u64::from(c.holder),
     ];
-    octets::layout::write(space, 0, &widths, &v);
+    octets::layout::write(space, 0, &fields::CREDENTIAL_WIDTHS, &numbers);
 }

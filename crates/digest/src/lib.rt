@@ -3,44 +3,33 @@
 #![tactic(auto)]
 
 ghost use Rattle.std.specs.Prelude.{◌≡◌};
-ghost use Rattle.digest.specs.Digest.{sha256_answer, hmac_answer};
+ghost use Rattle.digest.specs.Digest.{digest_of, sha256_answer, hmac_answer};
 
 pub mod mac;
 
 // The most bytes that a key or a message may have.
 const MOST: usize = 16_777_216;
 
-// Row 0 and the digest; or row 27 and 32 zero bytes.
-#[derive(Clone, Copy)]
-pub struct Digest {
-    pub row: u32,
-    pub bytes: [u8; 32],
-}
+// The refusal of row 27: key or message has more than 16,777,216 bytes.
+#[derive(Clone, Copy, Debug, PartialEq, Eq)]
+pub struct TooLong;
 
-// The SHA-256 of `message`; row 27 if it has more than 16,777,216 bytes.
-pub fn sha256(message: &[u8]) -> Digest
-    ensures { result ≡ sha256_answer message.now }
+// The SHA-256 of `message`, if it has no more than 16,777,216 bytes.
+pub fn sha256(message: &[u8]) -> Result<[u8; 32], TooLong>
+    ensures { digest_of result ≡ sha256_answer message.now }
 {
     if message.len() > MOST {
-        let bytes = [0u8; 32];
-        return Digest { row: 27, bytes };
+        return Err(TooLong);
     }
-    let bytes = sha256_stream::of(message);
-    Digest { row: 0, bytes }
+    Ok(sha256_stream::of(message))
 }
 
-// The HMAC of `message` under `key`; row 27 if either has more than 16,777,216 bytes.
-pub fn hmac(key: &[u8], message: &[u8]) -> Digest
-    ensures { result ≡ hmac_answer key.now message.now }
+// The HMAC of `message` under `key`, if neither has more than 16,777,216 bytes.
+pub fn hmac(key: &[u8], message: &[u8]) -> Result<[u8; 32], TooLong>
+    ensures { digest_of result ≡ hmac_answer key.now message.now }
 {
-    if key.len() > MOST {
-        let bytes = [0u8; 32];
-        return Digest { row: 27, bytes };
+    if key.len() > MOST || message.len() > MOST {
+        return Err(TooLong);
     }
-    if message.len() > MOST {
-        let bytes = [0u8; 32];
-        return Digest { row: 27, bytes };
-    }
-    let bytes = mac::of(key, message);
-    Digest { row: 0, bytes }
+    Ok(mac::of(key, message))
 }

@@ -30,13 +30,11 @@ fn key_block(key: &[u8]) -> [u8; 64]
 fn xored(k: [u8; 64], c: u8) -> [u8; 64]
     ensures { result ≡ Rfc.xored c k }
 {
-    let mut p = k;
-    let mut i: usize = 0;
-    while i < 64 {
-        p[i] = k[i] ^ c;
-        i += 1;
+    let mut block = k;
+    for b in &mut block {
+        *b ^= c;
     }
-    p
+    block
 }
 
 // A keyed hash of no bytes. A Mac is plain data: prepare a key once and use it for several messages, each by `absorb`

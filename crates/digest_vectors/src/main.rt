@@ -21,12 +21,9 @@ fn hex_of(d: [u8; 32]) -> [u8; 64]
     ensures { result ≡ hex d }
 {
     let mut text = [0u8; 64];
-    let mut i: usize = 0;
-    while i < 32 {
-        let b = d[i];
-        text[2 * i] = digit((b >> 4) % 16);
-        text[2 * i + 1] = digit(b % 16);
-        i += 1;
+    for (i, b) in d.iter().enumerate() {
+        text[2 * i] = digit((*b >> 4) % 16);
+        text[2 * i + 1] = digit(*b % 16);
     }
     text
 }
@@ -41,28 +38,21 @@ fn line(out: Stdout, label: &[u8], d: [u8; 32]) -> io::Result<()> {
 }
 
 fn sha(out: Stdout, label: &[u8], message: &[u8]) -> io::Result<()> {
-    let r = digest::sha256(message);
-    let d = r.bytes;
-    line(out, label, d)
+    line(out, label, digest::sha256(message).unwrap_or([0; 32]))
 }
 
 fn keyed(out: Stdout, label: &[u8], key: &[u8], message: &[u8]) -> io::Result<()> {
-    let r = digest::hmac(key, message);
-    let d = r.bytes;
-    line(out, label, d)
+    line(out, label, digest::hmac(key, message).unwrap_or([0; 32]))
 }
 
 // A million times the letter a, a thousand at a time.
 fn million(out: Stdout) -> io::Result<()> {
     let part = [97u8; 1000];
     let mut h = sha256_stream::start();
-    let mut i: usize = 0;
-    while i < 1000 {
+    for _ in 0..1000 {
         h = sha256_stream::absorb(h, &part);
-        i += 1;
     }
-    let d = sha256_stream::finish(h);
-    line(out, b"sha256 a*1000000", d)
+    line(out, b"sha256 a*1000000", sha256_stream::finish(h))
 }
 
 // The bytes 0, 1, 2, ..
@@ -70,10 +60,8 @@ fn counting() -> [u8; 129]
     ensures { result ≡ count 129 }
 {
     let mut b = [0u8; 129];
-    let mut i: usize = 0;
-    while i < 129 {
+    for i in 0..129 {
         b[i] = i as u8;
-        i += 1;
     }
     b
 }
@@ -104,45 +92,17 @@ fn published(out: Stdout) -> io::Result<()> {
     sha(out, b"sha256 55*1005", &[0x55u8; 1005])
 }
 
-// The digest of the bytes 0, 1, .. n - 1.
-fn edge(out: Stdout, label: &[u8], n: usize) -> io::Result<()>
-    requires { n ≤ 129 }
+// The digests of the bytes 0, 1, .. n - 1, for each n from one number on up to another. At the end of a block it is told where the
+// length field still fits, where another block follows, and behind it. These digests are OpenSSL's.
+fn edges(out: Stdout, from: usize, end: usize) -> io::Result<()>
+    requires { end ≤ 130 }
 {
     let b = counting();
-    sha(out, label, &b[0..n])
-}
-
-// Messages around the end of one block: where the length field still fits, where another block follows, and behind it. These
-// digests, and those around the end of two, are OpenSSL's.
-fn one_block(out: Stdout) -> io::Result<()> {
-    edge(out, b"sha256 0..54", 54)?;
-    edge(out, b"sha256 0..55", 55)?;
-    edge(out, b"sha256 0..56", 56)?;
-    edge(out, b"sha256 0..57", 57)?;
-    edge(out, b"sha256 0..58", 58)?;
-    edge(out, b"sha256 0..59", 59)?;
-    edge(out, b"sha256 0..60", 60)?;
-    edge(out, b"sha256 0..61", 61)?;
-    edge(out, b"sha256 0..62", 62)?;
-    edge(out, b"sha256 0..63", 63)?;
-    edge(out, b"sha256 0..64", 64)?;
-    edge(out, b"sha256 0..65", 65)
-}
-
-// The same around the end of two blocks.
-fn two_blocks(out: Stdout) -> io::Result<()> {
-    edge(out, b"sha256 0..118", 118)?;
-    edge(out, b"sha256 0..119", 119)?;
-    edge(out, b"sha256 0..120", 120)?;
-    edge(out, b"sha256 0..121", 121)?;
-    edge(out, b"sha256 0..122", 122)?;
-    edge(out, b"sha256 0..123", 123)?;
-    edge(out, b"sha256 0..124", 124)?;
-    edge(out, b"sha256 0..125", 125)?;
-    edge(out, b"sha256 0..126", 126)?;
-    edge(out, b"sha256 0..127", 127)?;
-    edge(out, b"sha256 0..128", 128)?;
-    edge(out, b"sha256 0..129", 129)
+    for n in from..end {
+        out.print(format_args!("sha256 0..{n}"))?;
+        sha(out, b"", &b[..n])?;
+    }
+    Ok(())
 }
 
 // RFC 4231, section 4. The RFC shows the first 128 bits of case 5 only; here the whole is printed.
@@ -170,7 +130,7 @@ fn rfc4231(out: Stdout) -> io::Result<()> {
 fn main(rt: HostRuntime) -> io::Result<()> {
     let out = rt.stdout();
     published(out)?;
-    one_block(out)?;
-    two_blocks(out)?;
+    edges(out, 54, 66)?;
+    edges(out, 118, 130)?;
     rfc4231(out)
 }

@@ -1,16 +1,22 @@
 -- What the code of `admit` finds and does, in the rules' words: rows 7, 8, 9 and the judged ones, and the grant. All of the
 -- facts, keys, table and memory that a frame can see, and of the medium.
 use mathlib.Core.Path.{◌≡◌, refl, sym, ap, subst, ◌∙◌}
-use mathlib.Core.Bool.{Bool, true, false, not, cond}
+use mathlib.Core.Bool.{Bool, true, false, not, cond, ◌&&◌}
+use mathlib.Core.Option
 use mathlib.Core.Option.{Option, none, some}
 use mathlib.Core.List.{List, [], ◌∷◌, ◌++◌}
-use Prim.Native.Nat.{ℕ, ◌+◌, ◌-◌, ◌*◌, ◌≤◌, ◌<◌}
+use Prim.Native.Nat.{ℕ, ◌+◌, ◌*◌, ◌≤◌, ◌<◌}
 use native.Mathlib.Omega.{arith}
-use borrow.Rule.Slice.PartMut.{mid_of}
-use lib.ListN.{length, take, drop}
-use borrow.Author.Tests.{le-leb, ne_eqb}
-use Rattle.lemmas.specs.Tests.{◌is◌, ◌isnt◌}
-use Rattle.lemmas.specs.Lists.{part, same, missing}
+use Rattle.std.specs.Prelude as code
+use Rattle.std.specs.Option.{ok_or}
+use Rattle.std.specs.Result.{IsErrAnd, result_and}
+use Rattle.std.proofs.lemmas.Option.{cond_some}
+use Rattle.std.proofs.lemmas.Result.{err_from_is_err_and}
+use lib.ListN.{length, get_or}
+use borrow.Author.Tests.{eqb-false, le-leb, ne_eqb}
+use Rattle.lemmas.specs.Tests.{◌is◌, ◌isnt◌, ◌under◌}
+use Rattle.lemmas.specs.Lists.{find, part, same, missing}
+use Rattle.lemmas.specs.Options.{option_of}
 use Rattle.lemmas.specs.RowTable.{Row, line, first_row, row_here, row_next}
 use Rattle.digest.specs.Hmac.{hmac}
 use Rattle.rules.specs.declared.Credential.{Credential}
@@ -41,17 +47,20 @@ use Rattle.rules.specs.Operations.{
 use Rattle.rules.specs.Needs.{need_under}
 use Rattle.rules.specs.Rows.{group_bytes, low_level, need_of, row7, row8, row9, row12, drive_rows, scope_rows}
 use Rattle.rules.specs.Gate.{Answer, granted, refused}
+use Rattle.rules.specs.declared.refusal.Refusal.{Refusal}
+use Rattle.rules.specs.Refusals.{answer_length, answer_row, refusal_row}
+use Rattle.rules.proofs.Refused.{row_isnt_zero}
 use Rattle.rules.proofs.Clear.{Clear, clear22}
 use Rattle.rules.proofs.Holds.{quarter_in}
 use Rattle.rules.proofs.Memories.{room_left}
 use Rattle.rules.proofs.Sound.{partition_is}
 use Rattle.wire.specs.declared.ParsedRequest.{ParsedRequest}
 use Rattle.wire.specs.Parse.{numbers_of, frame_row}
-use Rattle.keyring.specs.Keys.{keys_in, key_index}
-use Rattle.state.specs.declared.Lookup.{Lookup}
-use Rattle.state.specs.Table.{needs_in, objects_in, partition_in, lookup_in}
+use Rattle.keyring.specs.Keys.{flags_from, is_set, key_count, key_index, keys_in, keys_size, place_of, set_key}
+use Rattle.state.specs.Table.{needs_in, objects_in, partition_in}
 use Rattle.judge.specs.declared.ScopeFacts.{ScopeFacts}
-use Rattle.judge.specs.Judge.{list_row, placement_for, FactsHold}
+use Rattle.judge.specs.declared.FrameFacts.{FrameFacts}
+use Rattle.judge.specs.Judge.{list_row, object_or_none, placement_for, FactsHold}
 use Rattle.effect.specs.declared.GrantContext.{GrantContext}
 use Rattle.effect.specs.Effect.{medium_after}
 use Rattle.effect.specs.Performed.{ContextFits, BytesFit, medium_is, reached_by}
@@ -60,33 +69,82 @@ use Rattle.digest.specs.Keyed.{Keyed}
 use Rattle.sealed_reply.specs.Reply.{reply_put}
 use Rattle.sealed_reply.proofs.Performed.{reply_is}
 use Rattle.partition.specs.Applied.{ChangeFits}
-use Rattle.drive.specs.declared.Outcome.{Outcome}
-use Rattle.drive.specs.Admission.{scope_from, scope_answer, grant_context, AdmitRequires, ServeRequires, OutcomeMet}
+use Rattle.drive.specs.Admission.{scope_from, scope_answer, grant_context, AdmitRequires, ServeRequires, Outcome, OutcomeMet}
 use Rattle.drive.proofs.Frames.{in_four, parsed-row, parsed-credential, parsed-request}
 use Rattle.drive.proofs.Grants.{found_inside, numbers-operation, bytes_fit, result_long, reply-room, context-fits, change-fits}
 
--- the bytes of a key, as the code lends them
-pub secret_is : (ks : List ℕ) (j k : ℕ) → j ≡ k
-    → mid_of (key_size * j) (key_size * j + key_size - key_size * j) ks ≡ part ks (key_size * k) key_size
-unfolding part
-secret_is ks j k e =
-    let n : key_size * j + key_size - key_size * j ≡ key_size = omega arith in
-    ap (λ (i : ℕ). take i (drop (key_size * j) ks)) n ∙ ap (λ (i : ℕ). take key_size (drop (key_size * i) ks)) e
+-- ---- what the code answers
+-- a value, or what stands for none
+pub or_given : {A : Type 0} (o : code.Option A) (d : A) → code.unwrap_or o d ≡ Option.get_or (option_of o) d
+or_given code.None d = refl
+or_given (code.Some x) d = refl
+
+-- a refusal that is handed on by the `?` is the answer
+pub handed_on : {T : Type 0} (a : code.Result T Refusal) (e : Refusal) → IsErrAnd a (λ d. d ≡ e) → a ≡ code.Err e
+handed_on a e h = let p = err_from_is_err_and a h in p.1 ∙ ap code.Err p.2
+
+-- a value that there must be
+pub ok_or_none : {A : Type 0} (o : code.Option A) (x e : Refusal) → code.Err e ≡ ok_or o x → (o ≡ code.None) × (e ≡ x)
+ok_or_none code.None x e h = (refl, cc)
+ok_or_none (code.Some y) x e h = (cc, cc)
+
+pub ok_or_some : {A : Type 0} (o : code.Option A) (x : Refusal) (y : A) → code.Ok y ≡ ok_or o x → o ≡ code.Some y
+ok_or_some code.None x y h = cc
+ok_or_some (code.Some z) x y h = let e : z ≡ y = cc in ap code.Some e
+
+-- the answer of a parse that gave no fields
+pub and_row : {T : Type 0} (a : code.Result T Refusal) (n : ℕ) → answer_row (result_and a (code.Ok n)) ≡ answer_row a
+and_row (code.Ok x) n = refl
+and_row (code.Err e) n = refl
+
+pub and_length : {T : Type 0} (a : code.Result T Refusal) → answer_length (result_and a (code.Ok 0)) ≡ 0
+and_length (code.Ok x) = refl
+and_length (code.Err e) = refl
+
+-- no refusal has row 0
+pub row_not_zero : (e : Refusal) → refusal_row e ≡ 0 → ⊥
+row_not_zero e h = eqb-false (refusal_row e) 0 (row_isnt_zero e) h
+
+-- ---- a key's place and its bytes, as the code has them
+pub no_place : (ks : List ℕ) (i : ℕ) → code.None ≡ place_of i → is_set ks i ≡ false
+no_place ks i h = go (i under key_count) refl h
+  where
+    last : (b c : Bool) → (b && false && c) ≡ false
+    last true c = refl
+    last false c = refl
+
+    go : (b : Bool) → (i under key_count) ≡ b → code.None ≡ cond b (code.Some i) code.None → is_set ks i ≡ false
+    go true e n = cc
+    go false e n = rw e (last (length ks is keys_size) (get_or ks (flags_from + i) 0 isnt 0))
+
+pub the_place : (i j : ℕ) → code.Some j ≡ place_of i → j ≡ i
+the_place i j h = sym (cond_some (i under key_count) i j (sym h)).1
+
+pub not_set : (ks : List ℕ) (j : ℕ) → code.None ≡ set_key ks j → is_set ks j ≡ false
+not_set ks j h = go (is_set ks j) h
+  where
+    go : (b : Bool) → code.None ≡ cond b (code.Some (part ks (key_size * j) key_size)) code.None → b ≡ false
+    go true n = cc
+    go false n = refl
+
+pub key_is : (ks : List ℕ) (j : ℕ) (key : List ℕ) → code.Some key ≡ set_key ks j
+    → (is_set ks j ≡ true) × (key ≡ part ks (key_size * j) key_size)
+key_is ks j key h = let p = cond_some (is_set ks j) (part ks (key_size * j) key_size) key (sym h) in (p.0, sym p.1)
 
 -- where the object that a credential names starts on the medium: `found` is that object
-abbrev pub found_start : ScopeFacts → Credential → Lookup → ℕ
-found_start s c found = c.partition * quarter s.size + found.object.start
+abbrev pub found_start : ScopeFacts → Credential → code.Option Object → ℕ
+found_start s c found = c.partition * quarter s.size + (object_or_none (option_of found)).start
 
 -- what the code works out before it judges, of the request's numbers r: the lengths of result and reply, the object that the
 -- credential names, what rows 32 and 33 say of its bytes, the object that the frame reaches, and where a new extent would start
-pub record Prepared (s : ScopeFacts) (t m : List ℕ) (c : Credential) (r : Request) (n whole : ℕ) (found : Lookup) (listed : ℕ)
-    (target : Lookup) (place : Option ℕ) : Type 0 where
+pub record Prepared (s : ScopeFacts) (t m : List ℕ) (c : Credential) (r : Request) (n whole : ℕ) (found : code.Option Object)
+    (listed : code.Result (Unit {0}) Refusal) (target : code.Option Object) (place : code.Option ℕ) : Type 0 where
   pub result : n ≡ result_length r
   pub reply : whole ≡ head_size + n + cond (r.level is 2) digest_size 0
-  pub named : found ≡ lookup_in (objects_in t) c.object
-  pub list : listed ≡ list_row (part m (found_start s c found) found.object.size) r
-  pub reached : target ≡ lookup_in (objects_in t) (target_of c r)
-  pub placed : place ≡ placement_for (quarter s.size) (objects_in t) r
+  pub named : option_of found ≡ find Object.number c.object (objects_in t)
+  pub list : answer_row listed ≡ list_row (part m (found_start s c found) (object_or_none (option_of found)).size) r
+  pub reached : option_of target ≡ find Object.number (target_of c r) (objects_in t)
+  pub placed : option_of place ≡ placement_for (quarter s.size) (objects_in t) r
 
 module _ {s : ScopeFacts} {ks t : List ℕ} {l : List Entry} {m f : List ℕ} {c : Credential} {request : ParsedRequest}
     (w : AdmitRequires s ks t l m f c request) where
@@ -106,10 +164,10 @@ module _ {s : ScopeFacts} {ks t : List ℕ} {l : List Entry} {m f : List ℕ} {c
   name_is = ap operation (sym request_is) ∙ numbers-operation request
 
   -- ---- the object that the credential names, or nothing, lies on the medium
-  pub inside-medium : {found : Lookup} → found ≡ lookup_in (objects_in t) c.object
-      → found_start s c found + found.object.size ≤ length m
-  unfolding lookup_in partition_in
-  inside-medium {found} named =
+  pub inside-medium : (found : code.Option Object) → option_of found ≡ find Object.number c.object (objects_in t)
+      → found_start s c found + (object_or_none (option_of found)).size ≤ length m
+  unfolding partition_in
+  inside-medium found named =
       let Q : ℕ = quarter s.size in
       rw named (omega (
         arith,
@@ -253,8 +311,8 @@ module _ {s : ScopeFacts} {need : Need} {bad : Bool} {ks t : List ℕ} {l : List
   pub high : row7 (S w) (y w).cred (y w).req ≡ false
   high = level_is w ∙ rw (← v.numbers, ← v.needed) v.level
 
-  module _ {n whole : ℕ} {found : Lookup} {listed : ℕ} {target : Lookup} {place : Option ℕ}
-      (p : Prepared s t m c r n whole found listed target place) where
+  module _ {n whole : ℕ} {found : code.Option Object} {listed : code.Result (Unit {0}) Refusal} {target : code.Option Object}
+      {place : code.Option ℕ} (p : Prepared s t m c r n whole found listed target place) where
     whole_is : whole ≡ reply_length r
     unfolding reply_length
     whole_is = p.reply ∙ ap (λ (i : ℕ). head_size + i + cond (r.level is 2) digest_size 0) p.result
@@ -262,9 +320,22 @@ module _ {s : ScopeFacts} {need : Need} {bad : Bool} {ks t : List ℕ} {l : List
     r_is : r ≡ (y w).req
     r_is = v.numbers ∙ request_is w
 
+    abbrev known : FrameFacts
+    known = record {
+      credential = c;
+      request = r;
+      need = need;
+      badload = bad;
+      found = found;
+      listed = listed;
+      target = target;
+      place = place;
+      length = whole;
+    }
+
     -- what the judge knows
-    pub judge-facts : FactsHold (S w) s (partition_in t) c need bad r (y w).payload (group_bytes (S w) c m) listed found target place whole
-    unfolding placement partition_in need_of extent_bytes extent_start object_of named_object lookup_in
+    pub judge-facts : FactsHold (S w) s (partition_in t) known (y w).payload (group_bytes (S w) c m)
+    unfolding placement partition_in need_of extent_bytes extent_start object_of named_object
     judge-facts = record {
       marked = refl;
       own = refl;
@@ -281,17 +352,18 @@ module _ {s : ScopeFacts} {need : Need} {bad : Bool} {ks t : List ℕ} {l : List
 
     -- the grant
     module _ (space : List ℕ) (first : first_row (table w space) ≡ 0) where
-      reached-y : target ≡ lookup_in (S w).partition.objects (reached_by (y w))
+      reached-y : option_of target ≡ find Object.number (reached_by (y w)) (S w).partition.objects
       unfolding partition_in
       reached-y = p.reached ∙ rw (c_is w, r_is) refl
 
-      placed-y : place ≡ cond ((y w).req.operation isnt 5) none (placement (S w) (y w).req.B)
+      placed-y : option_of place ≡ cond ((y w).req.operation isnt 5) none (placement (S w) (y w).req.B)
       unfolding placement partition_in
       placed-y = p.placed ∙ ap (placement_for (quarter s.size) (objects_in t)) r_is
 
       pub granted-given : {secret : List ℕ} → key_in (keys_in ks) c.partition c.slot ≡ some secret
           → (j : ℕ) → j ≡ key_index c.slot c.partition
-          → (k : GrantContext) → k ≡ grant_context s.size (partition_in t) c (target_of c (numbers_of request)) target place
+          → (k : GrantContext) → k ≡ grant_context s.size (partition_in t) c (target_of c (numbers_of request)) (option_of target)
+          (option_of place)
           → (after replied : List ℕ) → after ≡ medium_after request.operation k (y w).payload m
           → (hash : Mac) → Keyed hash (credential_key (keys_in ks) (y w)) ((y w).credential ++ (y w).request)
           → replied ≡ reply_put hash r n request.operation k m space
@@ -312,7 +384,7 @@ module _ {s : ScopeFacts} {need : Need} {bad : Bool} {ks t : List ℕ} {l : List
         fits = λ z. changes;
       }
         where
-          there : k ≡ grant_context s.size (S w).partition (y w).cred (reached_by (y w)) target place
+          there : k ≡ grant_context s.size (S w).partition (y w).cred (reached_by (y w)) (option_of target) (option_of place)
           there = k_is ∙ rw (c_is w, request_is w) refl
 
           fits : ContextFits (operation_of (y w)) (S w) (y w).cred (reached_by (y w)) k

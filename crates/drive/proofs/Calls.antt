@@ -8,7 +8,7 @@ use Rattle.rules.specs.Demands.{answer, fed, step}
 use Rattle.rules.specs.Drive.{format}
 use Rattle.rules.specs.Gate.{Call}
 use Rattle.rules.specs.Ledger.{Fed}
-use Rattle.drive.specs.declared.Formatted.{Formatted}
+use Rattle.drive.specs.Answers.{Formatted}
 use Rattle.drive.specs.Met.{FormatMet}
 use Rattle.drive.specs.Chain.{after, Chain, CallMade, fed_by, DriveState, left_by_call, CallMet, viewed}
 

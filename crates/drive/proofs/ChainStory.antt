@@ -14,7 +14,7 @@ use Rattle.rules.specs.Operations.{head_size}
 use Rattle.rules.specs.Story.{OfEveryList, OneLog, OpensNothing, VersionsOnce}
 use Rattle.rules.proofs.OneLog.{one_log_lem, versions-once}
 use Rattle.rules.proofs.OpensNothing.{opens-nothing}
-use Rattle.drive.specs.declared.Formatted.{Formatted}
+use Rattle.drive.specs.Answers.{Formatted}
 use Rattle.drive.specs.Chain.{Chain, CallMade, fed_by, DriveState, Granted, MadeFromFormat}
 use Rattle.drive.specs.ChainStory.{AllOfStory}
 use Rattle.drive.proofs.Calls.{calls_of, chain-fed, formatted}

@@ -25,13 +25,13 @@ use Rattle.drive.specs.Admission.{ParsedTo, StartsHold}
 
 module _ {f : List ℕ} {c : Credential} {request : ParsedRequest} (parsed : ParsedTo f c request) where
   pub parsed-row : frame_row f ≡ 0
-  parsed-row = (answered-fields f c request parsed.answer).0
+  parsed-row = (answered-fields f (record { credential = c; request = request }) parsed.answer).0
 
   pub parsed-credential : c ≡ (fields f).cred
-  parsed-credential = (answered-fields f c request parsed.answer).1
+  parsed-credential = (answered-fields f (record { credential = c; request = request }) parsed.answer).1
 
   pub parsed-request : numbers_of request ≡ (fields f).req
-  parsed-request = (answered-fields f c request parsed.answer).2
+  parsed-request = (answered-fields f (record { credential = c; request = request }) parsed.answer).2
 
   none : (n : ℕ) → applies n (frame_rows f (fields f)) ≡ false
   unfolding frame_row frame_rows every
@@ -42,7 +42,7 @@ module _ {f : List ℕ} {c : Credential} {request : ParsedRequest} (parsed : Par
   clear = (none 4, none 5)
 
   parsed-starts : request.starts ≡ part_starts f
-  parsed-starts = (answered-fields f c request parsed.answer).3
+  parsed-starts = (answered-fields f (record { credential = c; request = request }) parsed.answer).3
 
   -- "the frame is as long as its parts together"
   long : length f ≡ (part_starts f).digest + digest_size

@@ -21,7 +21,7 @@ use Rattle.rules.proofs.Answers.{gate-granted, gate-refused, ready_left}
 use Rattle.rules.proofs.Keeps.{gate-sound}
 use Rattle.wire.specs.Parse.{frame_row}
 use Rattle.drive.specs.declared.Drive.{Drive}
-use Rattle.drive.specs.declared.Answer.{Answer}
+use Rattle.drive.specs.Answers.{Answer}
 use Rattle.drive.specs.View.{view}
 use Rattle.drive.specs.Admission.{scope_answer}
 use Rattle.drive.specs.Met.{call_of, GateMet}

@@ -40,8 +40,6 @@ use Rattle.rules.proofs.Shown.{result-length}
 use Rattle.rules.proofs.Clear.{Clear, asks_for, clear21, clear23, in_four, known_operation, in_object, read_moves, write_moves, grant}
 use Rattle.wire.specs.declared.ParsedRequest.{ParsedRequest}
 use Rattle.wire.specs.Parse.{operation_number, first_number, second_number, numbers_of}
-use Rattle.state.specs.declared.Lookup.{Lookup}
-use Rattle.state.specs.Table.{lookup_in}
 use Rattle.effect.specs.declared.GrantContext.{GrantContext}
 use Rattle.effect.specs.Effect.{next_version_of}
 use Rattle.effect.specs.Performed.{ContextFits, BytesFit, reached_by}
@@ -121,13 +119,13 @@ module _ {f : List ℕ} {s : Scope Object} {m space : List ℕ} (g : Clear f s m
       (and_rest_false (gives_version x.req) (s.partition.last is last_version) h (clear21 g)))) refl
 
   -- where the grant works: `target` is the object that the frame reaches, `place` a new extent's
-  module _ {target : Lookup} (reached : target ≡ lookup_in s.partition.objects (reached_by x)) {place : Option ℕ}
+  module _ {target : Option Object} (reached : target ≡ find Object.number (reached_by x) s.partition.objects) {place : Option ℕ}
       (placed : place ≡ cond (x.req.operation isnt 5) none (placement s x.req.B)) where
     abbrev context : GrantContext
     context = grant_context M s.partition x.cred (reached_by x) target place
 
     pub context-fits : ContextFits (operation_of x) s x.cred (reached_by x) context
-    unfolding grant_context lookup_in extent_start object_of named_object present_version placement_start
+    unfolding grant_context extent_start object_of named_object present_version placement_start
     context-fits = record {
       quarter = rw (← q-is) refl;
       start = rw (← q-is, reached) refl;

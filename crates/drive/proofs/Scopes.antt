@@ -50,10 +50,9 @@ use Rattle.partition.specs.Applied.{applied_is}
 use Rattle.set_key.specs.Keys.{keys_after}
 use Rattle.set_key.specs.KeysAfter.{keys_after_lem}
 use Rattle.drive.specs.declared.Drive.{Drive}
-use Rattle.drive.specs.declared.Answer.{Answer}
-use Rattle.drive.specs.declared.Outcome.{Outcome}
+use Rattle.drive.specs.Answers.{Answer}
 use Rattle.drive.specs.View.{view, tables_in, memories_of, objects_fit, CountsFit}
-use Rattle.drive.specs.Admission.{scope_from, scope_answer, ParsedTo, AdmitRequires, OutcomeMet}
+use Rattle.drive.specs.Admission.{scope_from, scope_answer, ParsedTo, AdmitRequires, Outcome, OutcomeMet}
 use Rattle.drive.specs.Met.{call_of, GateMet}
 use Rattle.drive.proofs.Frames.{parsed-row, parsed-credential, partition_is, in_four, memory_is, in_five}
 use Rattle.drive.proofs.Tables.{map_at, tables_at, tables-length, tables_put}

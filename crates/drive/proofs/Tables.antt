@@ -1,7 +1,10 @@
 -- The partitions' tables in their places (`tables_in`), as chunks: how many, one of them, another in its place, and all of them
 -- made those of partitions that have nothing.
 use mathlib.Core.Path.{◌≡◌, refl, sym, ap, ◌∙◌}
+use mathlib.Core.Bool.{Bool, ◌&&◌}
 use mathlib.Core.List.{List, [], ◌∷◌, map}
+use Rattle.std.specs.List.{list_all}
+use Rattle.lemmas.specs.Lists.{every}
 use Prim.Native.Nat.{ℕ, zero, suc, ◌+◌, ◌*◌, ◌<◌}
 use native.Mathlib.Decide.{ℕ_discrete}
 use native.Mathlib.Nat.{le_of_suc-le-suc, not-suc-le-zero}
@@ -32,6 +35,12 @@ pub map_at : {A B : Type 0} (f : A → B) (l : List A) (i : ℕ) (d : A) (e : B)
 map_at f [] i d e h = absurd (not-suc-le-zero h)
 map_at f (x ∷ l) zero d e h = refl
 map_at f (x ∷ l) (suc i) d e h = map_at f l i d e (le_of_suc-le-suc h)
+
+-- every element, in the words of a chain
+pub all_every : {A : Type 0} (t : A → Bool) (l : List A) → list_all t l ≡ every t l
+unfolding every
+all_every t [] = refl
+all_every t (x ∷ l) = ap (λ (b : Bool). t x && b) (all_every t l)
 
 -- ---- the first i tables are of partitions that have nothing
 pub record Emptied (first : ℕ) (l : List ℕ) (i : ℕ) : Type 0 where

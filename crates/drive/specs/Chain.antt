@@ -13,8 +13,7 @@ use Rattle.rules.specs.Ledger.{bare_scope, bytes_of, clocked, Fed, Ledger, ledge
 use Rattle.rules.specs.Operations.{head_size}
 use Rattle.rules.specs.Rows.{bounds, gate_rows}
 use Rattle.drive.specs.declared.Drive.{Drive}
-use Rattle.drive.specs.declared.Answer.{Answer}
-use Rattle.drive.specs.declared.Formatted.{Formatted}
+use Rattle.drive.specs.Answers.{Answer, Formatted}
 use Rattle.drive.specs.View.{view}
 use Rattle.drive.specs.Met.{FormatMet, GateMet}
 

@@ -4,7 +4,7 @@
 -- c: a call made, behind the calls `before`.
 use Rattle.std.specs.Prelude.{◌≡◌, ◌++◌, ◌∷◌, List, ℕ}
 use Rattle.rules.specs.TwoHeads.{Share}
-use Rattle.drive.specs.declared.Formatted.{Formatted}
+use Rattle.drive.specs.Answers.{Formatted}
 use Rattle.drive.specs.Chain.{CallMade, Granted, MadeFromFormat}
 
 -- one of the calls before was granted, and shares "nonce memory, slot, holder, time, count and object together" with c

@@ -10,7 +10,7 @@ use Rattle.rules.specs.BestFit.{extent_step, NoGap}
 use Rattle.rules.specs.Demands.{call_operation, Has}
 use Rattle.rules.specs.Drive.{quarter}
 use Rattle.rules.specs.Steps.{NewExtent, OnStep, partition_for}
-use Rattle.drive.specs.declared.Formatted.{Formatted}
+use Rattle.drive.specs.Answers.{Formatted}
 use Rattle.drive.specs.View.{view}
 use Rattle.drive.specs.Chain.{after, CallMade, CallMet, DriveState, Granted, MadeFromFormat, viewed}
 

@@ -8,7 +8,7 @@ use Rattle.rules.specs.declared.Operation.TheVariants.{Read}
 use Rattle.rules.specs.Ledger.{bytes_of, Ledger, ledger_start}
 use Rattle.rules.specs.Operations.{head_size}
 use Rattle.rules.specs.Story.{OneLog, OpensNothing, reached, rewritten, Together, Uses, VersionsOnce}
-use Rattle.drive.specs.declared.Formatted.{Formatted}
+use Rattle.drive.specs.Answers.{Formatted}
 use Rattle.drive.specs.Chain.{ledger_after_calls, CallMade, fed_by, Granted, MadeFromFormat}
 
 pub record Story (M : ℕ) (l : Ledger) (calls : List CallMade) : Type 0 where

@@ -7,7 +7,7 @@ use Rattle.rules.specs.declared.Operation.TheVariants.{LoadTable}
 use Rattle.rules.specs.Demands.{call_fields, call_operation}
 use Rattle.rules.specs.Needs.{good_needs, needs_at}
 use Rattle.rules.specs.OperationTable.{partition_number, table_of}
-use Rattle.drive.specs.declared.Formatted.{Formatted}
+use Rattle.drive.specs.Answers.{Formatted}
 use Rattle.drive.specs.View.{view}
 use Rattle.drive.specs.Chain.{after, CallMade, CallMet, DriveState, Granted, MadeFromFormat}
 

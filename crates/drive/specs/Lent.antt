@@ -10,8 +10,7 @@ use Rattle.keyring.specs.Keys.{keys_size, partition_count}
 use Rattle.state.specs.Table.{table_size}
 use Rattle.memory.specs.Memory.{memory_count, memory_places, entry_size}
 use Rattle.drive.specs.declared.Drive.{Drive}
-use Rattle.drive.specs.declared.Answer.{Answer}
-use Rattle.drive.specs.declared.Formatted.{Formatted}
+use Rattle.drive.specs.Answers.{Answer, Formatted}
 use Rattle.drive.specs.Met.{FormatMet, GateMet}
 use Rattle.drive.specs.Chain.{CallMade, Demand1, Demand3, DriveState}
 use Rattle.drive.specs.ChainStory.{Story}
@@ -78,7 +77,7 @@ pub record LentFromFormat (medium : List ℕ) (F : ℕ) (master key : List ℕ) 
   pub format : FormatMet medium F master key (formatted_with 0 d) zeroed
   pub chain : LentChain (record { drive = d; medium = zeroed }) calls
 
--- ---- the demands, as of calls by value
+-- ---- the demands, as of calls on a record
 abbrev pub made_from : LentCall → CallMade
 made_from c = record {
   call = c.call;

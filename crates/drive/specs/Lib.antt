@@ -1,7 +1,8 @@
--- The record as the rules see it, the promises of format and gate, and the customer's demands over these promises, of calls by value
--- and of lent ones.
+-- The record as the rules see it, the promises of format and gate, and the customer's demands over these promises, of calls on a
+-- record and on lent parts.
 pub mod View
 pub mod Admission
+pub mod Answers
 pub mod Met
 pub mod Chain
 pub mod ChainStory

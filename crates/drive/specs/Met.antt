@@ -4,8 +4,7 @@ use Rattle.rules.specs.Drive as rules
 use Rattle.rules.specs.Gate as rules_gate
 use Rattle.rules.specs.Gate.{Call}
 use Rattle.drive.specs.declared.Drive.{Drive}
-use Rattle.drive.specs.declared.Answer.{Answer}
-use Rattle.drive.specs.declared.Formatted.{Formatted}
+use Rattle.drive.specs.Answers.{Answer, Formatted}
 use Rattle.drive.specs.View.{view}
 
 -- format, of the medium m, first version F, master and drive key: row, drive and medium, refusals too

@@ -3,6 +3,7 @@ ghost use Rattle.std.specs.Prelude.{◌≡◌, ◌||◌, [], ◌∷◌, map, ◌
 ghost use Rattle.lemmas.specs.Tests.{◌over◌, ◌is◌, ◌isnt◌};
 ghost use Rattle.lemmas.specs.RowTable.{line, first_row};
 ghost use Rattle.rules.specs.Frame.{key_size};
+ghost use Rattle.rules.specs.Refusals.{answer_row};
 ghost use Rattle.rules.specs.Drive.{largest_medium, empty_partition, new_drive};
 ghost use Rattle.keyring.specs.Keys.{partition_count, keys_in};
 ghost use Rattle.state.specs.Table.{table_size, partition_view};
@@ -11,16 +12,20 @@ ghost use Rattle.drive.specs.View.{view, tables_in};
 use super::{Drive, TABLES};
 use keyring::{KEYS, PARTITIONS};
 use memory::{ENTRIES, MEMORIES, PLACES};
-use rules::{KEY_SIZE, LARGEST_MEDIUM};
+use rules::{KEY_SIZE, LARGEST_MEDIUM, Refusal, refuse};
 use state::TABLE;
 
-// Row 24, 25 or 26, or 0 where none applies: of the lengths of the medium and of the keys lent, and the first version.
-pub fn format_row(size: usize, first: u32, master: usize, key: usize) -> u32
-    ensures { result ≡ first_row (line 24 (size over largest_medium) ∷ line 25 (first is 0) ∷ line 26 (master isnt key_size || key isnt key_size) ∷ []) }
+// Rows 24 to 26: of the lengths of the medium and of the keys lent, and the first version.
+pub fn format_answer(size: usize, first: u32, master: usize, key: usize) -> Result<(), Refusal>
+    ensures { answer_row result
+        ≡ first_row (line 24 (size over largest_medium) ∷ line 25 (first is 0) ∷ line 26 (master isnt key_size || key isnt key_size) ∷ []) }
 {
-    let r26 = lemmas::pick((master != KEY_SIZE) | (key != KEY_SIZE), 26, 0);
-    let r25 = lemmas::pick(first == 0, 25, r26);
-    lemmas::pick(size > LARGEST_MEDIUM, 24, r25)
+    refuse(size > LARGEST_MEDIUM, Refusal::LargeMedium)?;
+    refuse(first == 0, Refusal::ZeroVersion)?;
+    refuse(
+        (master != KEY_SIZE) | (key != KEY_SIZE),
+        Refusal::WrongKeySize,
+    )
 }
 
 // Makes each of four partitions' tables one of a partition that has nothing.
@@ -28,12 +33,9 @@ fn empty_each(tables: &mut [u32], first: u32)
     requires { length tables.old ≡ partition_count * table_size }
     ensures { map partition_view (tables_in partition_count tables.new) ≡ replicate partition_count (empty_partition first) }
 {
-    let mut i = 0;
-    while i < PARTITIONS {
+    for i in 0..PARTITIONS {
         let at = TABLE * i;
-        let end = at + TABLE;
-        state::empty(&mut tables[at..end], first);
-        i += 1;
+        state::empty(&mut tables[at..at + TABLE], first);
     }
 }
 

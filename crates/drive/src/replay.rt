@@ -1,4 +1,7 @@
 // The five replay memories in their arrays: the drive's lengths, entries and times.
+// Kept, the proof did not close: a struct that borrows the three from the gate's parameters gets no generated proof, since the gate
+// returns early while it stands (what it holds at that return differs at the parameter); so they are three parameters, and that they
+// fit is required.
 ghost use Rattle.std.specs.Prelude.{◌≡◌, List, [], ◌∷◌, ◌++◌, map, ◌<◌, get_or};
 ghost use Rattle.lemmas.specs.Lists.{keep, some?, update};
 ghost use Rattle.rules.specs.declared.Entry.{Entry};
@@ -15,15 +18,12 @@ pub fn drop_outlived(lengths: &mut [usize], entries: &mut [u32], times: &mut [u6
         ≡ map (keep (lives mark)) (memories_of lengths.old entries.old times.old))
         × MemoriesFit lengths.new entries.new times.new }
 {
-    let mut m = 0;
-    while m < MEMORIES {
+    for m in 0..MEMORIES {
         let start = MOST_ENTRIES * m;
         let end = start + lengths[m];
         let first = ENTRY * start;
         let past = ENTRY * end;
-        let left = memory::purge(&mut entries[first..past], &mut times[start..end], mark);
-        lengths[m] = left;
-        m += 1;
+        lengths[m] = memory::purge(&mut entries[first..past], &mut times[start..end], mark);
     }
 }
 

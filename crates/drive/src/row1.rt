@@ -1,5 +1,6 @@
-// Row 1, and the mark.
-ghost use Rattle.std.specs.Prelude.{◌≡◌, true, ◌&&◌, map, ◌*◌, max, leb, length};
+// Row 1.
+ghost use Rattle.std.specs.Prelude.{◌≡◌, true, ◌&&◌, map, ◌*◌, leb, length};
+ghost use Rattle.std.specs.List.{list_all};
 ghost use Rattle.lemmas.specs.Lists.{every};
 ghost use Rattle.lemmas.specs.Tests.{◌is◌};
 ghost use Rattle.rules.specs.Drive.{largest_medium, quarter as quarter_of, sound_partition};
@@ -9,7 +10,6 @@ ghost use Rattle.state.specs.Table.{table_size, partition_view};
 ghost use Rattle.drive.specs.View.{tables_in, objects_fit, entries_fit};
 
 use keyring::PARTITIONS;
-use memory::MEMORIES;
 use rules::{LARGEST_MEDIUM, MOST_ENTRIES};
 use state::TABLE;
 
@@ -20,12 +20,9 @@ fn sound_tables(tables: &[u32], quarter: u32) -> bool
         × (result ≡ true → every objects_fit (tables_in partition_count tables.now) ≡ true) }
 {
     let mut r = true;
-    let mut i = 0;
-    while i < PARTITIONS {
+    for i in 0..PARTITIONS {
         let at = TABLE * i;
-        let end = at + TABLE;
-        r = r & soundness::sound_table(&tables[at..end], quarter);
-        i += 1;
+        r = r & soundness::sound_table(&tables[at..at + TABLE], quarter);
     }
     r
 }
@@ -33,15 +30,9 @@ fn sound_tables(tables: &[u32], quarter: u32) -> bool
 // Whether no memory has over 64 entries.
 fn short_memories(lengths: &[usize]) -> bool
     requires { length lengths.now ≡ memory_count }
-    ensures { result ≡ every entries_fit lengths.now }
+    ensures { result ≡ list_all entries_fit lengths.now }
 {
-    let mut r = true;
-    let mut i = 0;
-    while i < MEMORIES {
-        r = r & (lengths[i] <= MOST_ENTRIES);
-        i += 1;
-    }
-    r
+    lengths.iter().all(|n| *n <= MOST_ENTRIES)
 }
 
 // Whether row 1 does not apply: of M, the tables and the memories' lengths of a record, and a medium of n bytes.
@@ -56,11 +47,4 @@ pub fn passes_row1(size: usize, tables: &[u32], lengths: &[usize], n: usize) -> 
     }
     let quarter = (size / 4) as u32;
     sound_tables(tables, quarter) & short_memories(lengths) & (n == size)
-}
-
-// The later of two times.
-pub fn later(a: u64, b: u64) -> u64
-    ensures { result ≡ max a b }
-{
-    if a < b { b } else { a }
 }

@@ -5,7 +5,7 @@
 ghost use Rattle.std.specs.Prelude.{◌≡◌};
 ghost use Rattle.effect.specs.Effect.{medium_after, next_version_of};
 
-use rules::{LAST_VERSION, Operation};
+use rules::Operation;
 
 // Where an operation works. `quarterstart` is where the partition starts on the medium; `start` and `size` are the object's
 // extent in it, `newstart` is the start of a new one; `looksize` and `version` are a look's result, `nextversion` is the next
@@ -21,11 +21,12 @@ pub struct GrantContext {
     pub nextversion: u32,
 }
 
+// Kept for what may not change: the clause of next_version (`next_version_of`), which has 0 behind the last version.
 // The next version; 0 after the last that there is, which row 21 refuses.
 pub fn next_version(last: u32) -> u32
     ensures { result ≡ next_version_of last }
 {
-    if last == LAST_VERSION { 0 } else { last + 1 }
+    last.wrapping_add(1)
 }
 
 // A write's bytes go into its object's own part of the medium; a new extent is cleared.
@@ -33,23 +34,15 @@ pub fn update_medium(medium: &mut [u8], bytes: &[u8], o: Operation, context: Gra
     ensures { medium.new ≡ medium_after o context bytes.now medium.old }
 {
     match o {
-        Operation::Read {
-            offset: _,
-            length: _,
-        } => {}
-        Operation::Write { offset, length: _ } => {
+        Operation::Write { offset, .. } => {
             let start = context.quarterstart as usize + context.start as usize;
             let size = context.size as usize;
             extent::write_extent(medium, start, size, offset as usize, bytes);
         }
-        Operation::Look => {}
-        Operation::Raise => {}
-        Operation::Create { number: _, size } => {
+        Operation::Create { size, .. } => {
             let start = context.quarterstart as usize + context.newstart as usize;
             extent::clear_extent(medium, start, size as usize);
         }
-        Operation::Delete => {}
-        Operation::SetKey { target: _ } => {}
-        Operation::LoadTable => {}
+        _ => {}
     }
 }

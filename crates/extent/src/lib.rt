@@ -4,8 +4,24 @@
 #![tactic(auto)]
 
 ghost use Rattle.std.specs.Prelude.{◌≡◌, ◌&&◌, cond, ◌+◌, length, replicate, leb};
+ghost use Rattle.octets.specs.Numbers.{bytes_put};
 ghost use Rattle.lemmas.specs.Lists.{part, splice};
 
+// Copies bytes into space from place at on; where they do not fit, nothing is written.
+// Kept for the C interface: a loop, and not `octets::copy_to`, since the library's copy asks the program for memmove, and the archives
+// want no more of it than memcpy and memset (tests/c/archives.sh).
+fn put(space: &mut [u8], at: usize, bytes: &[u8])
+    ensures { space.new ≡ bytes_put space.old at bytes.now }
+{
+    if !octets::fits(space.len(), at, bytes.len()) {
+        return;
+    }
+    for (i, b) in bytes.iter().enumerate() {
+        space[at + i] = *b;
+    }
+}
+
+// Kept, the new form is no plainer: here and below places in the medium, as octets has them, since they may lie outside.
 // Operation 2: the bytes replace those from the offset on of the extent of `size` bytes from `start` on.
 pub fn write_extent(medium: &mut [u8], start: usize, size: usize, offset: usize, bytes: &[u8])
     ensures { medium.new ≡ cond
@@ -16,18 +32,14 @@ pub fn write_extent(medium: &mut [u8], start: usize, size: usize, offset: usize,
     if !octets::fits(medium.len(), start, size) {
         return;
     }
-    octets::copy_to(&mut medium[start..start + size], offset, bytes);
+    put(&mut medium[start..start + size], offset, bytes);
 }
 
 // Format: every byte becomes 0.
 pub fn clear_all(medium: &mut [u8])
     ensures { medium.new ≡ replicate (length medium.old) 0 }
 {
-    let mut i = 0;
-    while i < medium.len() {
-        medium[i] = 0;
-        i += 1;
-    }
+    medium.fill(0);
 }
 
 // Operation 5: the `size` bytes from `start` on become 0.
@@ -37,11 +49,9 @@ pub fn clear_extent(medium: &mut [u8], start: usize, size: usize)
         (splice medium.old start (replicate size 0))
         medium.old }
 {
-    let inside = octets::fits(medium.len(), start, size);
-    if !inside {
-        return;
+    if octets::fits(medium.len(), start, size) {
+        clear_all(&mut medium[start..start + size]);
     }
-    clear_all(&mut medium[start..start + size]);
 }
 
 // Operation 1: the `count` bytes of the medium from `start` on go into the space from `at` on.
@@ -54,5 +64,5 @@ pub fn read_extent(medium: &[u8], start: usize, count: usize, space: &mut [u8], 
     if !octets::fits(medium.len(), start, count) {
         return;
     }
-    octets::copy_to(space, at, &medium[start..start + count]);
+    put(space, at, &medium[start..start + count]);
 }

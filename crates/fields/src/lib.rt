@@ -2,8 +2,9 @@
 // mark tells its form: which fields it has, and how long it is.
 #![tactic(auto)]
 
-ghost use Rattle.std.specs.Prelude.{◌≡◌};
+ghost use Rattle.std.specs.Prelude.{◌≡◌, replicate};
 ghost use Rattle.rules.specs.Frame.{credential_length, request_length};
+ghost use Rattle.octets.specs.Fields.{fields_read};
 ghost use Rattle.fields.specs.Records.{credential_in, request_in, request_read, rest_length};
 
 // The two bytes that each form starts with (the documents' marks).
@@ -24,18 +25,14 @@ pub const GROUP_REQUEST_SIZE: usize = 32;
 
 pub const LEAST_FRAME: usize = CREDENTIAL_SIZE + REQUEST_SIZE + rules::DIGEST_SIZE;
 
-// The layouts: how many fields there are, and their widths in bytes, in their order.
-pub const CREDENTIAL_FIELDS: usize = 12;
+// The layouts: the fields' widths in bytes, in their order; and how many fields the longest request has.
+pub const CREDENTIAL_WIDTHS: [usize; 12] = [2, 1, 1, 4, 4, 2, 1, 1, 4, 4, 8, 4];
 
-pub const CREDENTIAL_WIDTHS: [usize; CREDENTIAL_FIELDS] = [2, 1, 1, 4, 4, 2, 1, 1, 4, 4, 8, 4];
+pub const REQUEST_WIDTHS: [usize; 8] = [2, 1, 1, 8, 4, 4, 4, 4];
 
-pub const REQUEST_FIELDS: usize = 8;
+pub const GROUP_WIDTHS: [usize; 9] = [2, 1, 1, 8, 4, 4, 4, 4, 4];
 
-pub const REQUEST_WIDTHS: [usize; REQUEST_FIELDS] = [2, 1, 1, 8, 4, 4, 4, 4];
-
-pub const GROUP_FIELDS: usize = 9;
-
-pub const GROUP_WIDTHS: [usize; GROUP_FIELDS] = [2, 1, 1, 8, 4, 4, 4, 4, 4];
+pub const GROUP_FIELDS: usize = GROUP_WIDTHS.len();
 
 // How long a credential is, and how long a request is, by its mark.
 pub fn credential_length(c: rules::Credential) -> usize
@@ -60,13 +57,22 @@ pub fn rest_length(r: rules::Request) -> usize
     request_length(r) + r.n as usize + rules::DIGEST_SIZE
 }
 
+// Kept, the new form is no plainer: here and below a slice and a place in it, as octets has them, since bytes may be lacking from
+// there on.
+// The numbers of a layout's fields at place at, in their order; all zeros where they are not all there.
+fn numbers_in<const N: usize>(s: &[u8], at: usize, widths: &[usize; N]) -> [u64; N]
+    ensures { result ≡ fields_read s.now at widths.now (replicate N 0) }
+{
+    let mut numbers = [0; N];
+    octets::layout::read(s, at, widths, &mut numbers);
+    numbers
+}
+
 // The credential at place at; all zeros where it is not all there.
 pub fn credential_in(s: &[u8], at: usize) -> rules::Credential
     ensures { result ≡ credential_in s.now at }
 {
-    let widths = CREDENTIAL_WIDTHS;
-    let mut v = [0u64; CREDENTIAL_FIELDS];
-    octets::layout::read(s, at, &widths, &mut v);
+    let v = numbers_in(s, at, &CREDENTIAL_WIDTHS);
     rules::Credential {
         magic: v[0] as u16,
         partition: v[1] as u8,
@@ -88,15 +94,11 @@ pub fn credential_in(s: &[u8], at: usize) -> rules::Credential
 fn request_numbers(s: &[u8], at: usize) -> [u64; GROUP_FIELDS]
     ensures { result ≡ request_read s.now at }
 {
-    let mut v = [0u64; GROUP_FIELDS];
-    if octets::number(s, at, MAGIC_SIZE) == GROUP_MAGIC as u64 {
-        let widths = GROUP_WIDTHS;
-        octets::layout::read(s, at, &widths, &mut v);
-        return v;
+    if octets::number(s, at, MAGIC_SIZE) == u64::from(GROUP_MAGIC) {
+        return numbers_in(s, at, &GROUP_WIDTHS);
     }
-    let widths = REQUEST_WIDTHS;
-    octets::layout::read(s, at, &widths, &mut v[..REQUEST_FIELDS]);
-    v
+    let [magic, operation, level, time, count, a, b, n] = numbers_in(s, at, &REQUEST_WIDTHS);
+    [magic, operation, level, time, count, a, b, n, 0]
 }
 
 // The request at place at; all zeros where it is not all there.

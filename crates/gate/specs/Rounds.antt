@@ -1,7 +1,8 @@
 -- Laws of the rounds: what a round adds, and what the whole run comes to.
-use Rattle.std.specs.Prelude.{◌≡◌, refl, Bool, true, false, cond, List, [], ◌++◌, map, ℕ, ◌+◌, ◌-◌, ◌≤◌, ◌<◌, eqb, length, take, drop}
+use Rattle.std.specs.Prelude.{◌≡◌, refl, Bool, true, false, cond, List, [], ◌++◌, map, Option, None, Some, ℕ, ◌+◌, ◌-◌, ◌≤◌, ◌<◌, eqb, length, take, drop}
 use Rattle.std.proofs.Common.{sym, ap, subst, ◌∙◌, true≢false, append_assoc, append-nil, arith, length-append, length-drop, length-take-le, eq-eqb, eqb-true, ne_eqb}
 use Rattle.std.proofs.lemmas.Bool.{eqb-false}
+use Rattle.std.proofs.lemmas.List.{take-map}
 use Rattle.lemmas.specs.Tests.{◌is◌}
 use Rattle.rules.specs.Gate.{Call}
 use Rattle.rules.specs.Demands.{State, after}
@@ -23,15 +24,14 @@ use Rattle.rules.specs.Program.{
 use Rattle.drive.specs.declared.Drive.{Drive}
 use Rattle.drive.specs.Chain.{state_of}
 use Rattle.logged.specs.Log.{Added, Logged, logged_more, logged_none}
-use Rattle.reader.specs.declared.Batch.{Batch}
-use Rattle.reader.specs.declared.Outcome.{Outcome}
-use Rattle.reader.specs.declared.Outcome.TheVariants.{Running, Ended, Malformed, Unread}
-use Rattle.reader.specs.Promises.{between, goes_on, NextMet, nothing_read, pending_in, room_for}
+use Rattle.reader.specs.declared.Answered.{Answered}
+use Rattle.reader.specs.declared.Stop.{Stop}
+use Rattle.reader.specs.declared.Stop.TheVariants.{Ended, Malformed, Unread}
+use Rattle.reader.specs.Promises.{answered_length, answered_row, Batch, between, goes_on, NextMet, nothing_read, pending_in}
 use Rattle.reader.specs.Made.{answered_both, front-answers, length-answered}
 use Rattle.reader.specs.Session.{next_grows, Session, session_next, session_none, session-whole, WholeInput}
-use Rattle.gate.specs.declared.LoopState.{LoopState}
 use Rattle.gate.specs.Lines.{lines_both, lines_of_lem}
-use Rattle.gate.specs.Promises.{ended_as, has_ended, LastLine, lines_of, Progress, Reached, RoundMet, RunMet}
+use Rattle.gate.specs.Promises.{ended_as, has_ended, LastLine, lines_of, LoopState, Progress, Reached, RoundMet, RunMet}
 
 -- ---- the start
 pub progress_none : (d : Drive) (m buf inlog outlog : List ℕ) → state_of d m ≡ formatted
@@ -44,31 +44,33 @@ progress_none d m buf inlog outlog e = record {
 }
 
 -- ---- one round
-module _ (t : LoopState) (m buf x rows lengths partitions inlog outlog : List ℕ) (b : Batch)
-    (m' buf' x' rows' lengths' partitions' inlog' outlog' text : List ℕ) (at : ℕ) (written : Bool)
+module _ (t : LoopState) (m buf x : List ℕ) (answers : List Answered) (inlog outlog : List ℕ) (b : Batch)
+    (m' buf' x' : List ℕ) (answers' : List Answered) (inlog' outlog' text : List ℕ) (at : ℕ) (written : Bool)
     (h : Progress t m buf inlog outlog)
-    (g : NextMet t.drive t.intake most_frame m buf x rows lengths partitions inlog b m' buf' x' rows' lengths' partitions' inlog')
+    (g : NextMet t.drive t.intake most_frame m buf x answers inlog b m' buf' x' answers' inlog')
     (size : length x ≡ reply_size) (same_in : length inlog' ≡ length inlog)
-    (room : 0 < room_for rows lengths partitions)
-    (lines : text ≡ lines_of t.calls (take b.count rows') (take b.count lengths'))
+    (room : 0 < length answers)
+    (lines : text ≡ lines_of t.calls (map answered_row (take b.count answers')) (map answered_length (take b.count answers')))
     (went : Added outlog t.logged text outlog' at) (same_out : length outlog' ≡ length outlog) where
   abbrev before : List Call
   before = h.session.calls
 
   abbrev next : Session most_frame reply_size formatted b.intake b.drive m' buf' inlog'
   next =
-      session_next most_frame formatted t.drive t.intake m buf x rows lengths partitions inlog b m' buf' x' rows' lengths'
-      partitions' inlog' g reply_size h.session size same_in
+      session_next most_frame formatted t.drive t.intake m buf x answers inlog b m' buf' x' answers' inlog' g reply_size h.session size same_in
 
   text_is : text ≡ lines_from t.calls (answered (after formatted before) g.calls)
   text_is =
       let s : State = state_of t.drive m in
       let l : List AnsweredCall = answered s g.calls in
       lines
-      ∙ ap (λ (y : List ℕ). lines_of t.calls y (take b.count lengths'))
-      (front-answers AnsweredCall.row s g.calls b.count rows rows' g.count g.made.row)
+      ∙ ap (λ (y : List ℕ). lines_of t.calls y (map answered_length (take b.count answers')))
+      (sym (take-map answered_row b.count answers')
+      ∙ front-answers AnsweredCall.row s g.calls b.count (map answered_row answers) (map answered_row answers') g.count g.made.row)
       ∙ ap (λ (y : List ℕ). lines_of t.calls (map AnsweredCall.row l) y)
-      (front-answers AnsweredCall.length s g.calls b.count lengths lengths' g.count g.made.size)
+      (sym (take-map answered_length b.count answers')
+      ∙ front-answers AnsweredCall.length s g.calls b.count (map answered_length answers) (map answered_length answers') g.count
+      g.made.size)
       ∙ lines_of_lem t.calls l
       ∙ ap (λ (y : State). lines_from t.calls (answered y g.calls)) h.session.state
 
@@ -99,16 +101,14 @@ module _ (t : LoopState) (m buf x rows lengths partitions inlog outlog : List �
         went = subst (λ (y : List ℕ). Logged outlog' at y) all_lines
             (logged_more outlog t.logged (lines_from 0 (answered formatted before)) text outlog' at same_out h.went went);
       };
-      whole = session-whole most_frame formatted t.drive t.intake m buf x rows lengths partitions inlog b m' buf' x' rows'
-          lengths' partitions' inlog' g reply_size h.session size same_in;
+      whole = session-whole most_frame formatted t.drive t.intake m buf x answers inlog b m' buf' x' answers' inlog' g reply_size h.session size same_in;
       order = g.order;
       within = g.within;
     };
     grows = λ e.
         omega (
           arith,
-          next_grows most_frame formatted t.drive t.intake m buf x rows lengths partitions inlog b m' buf' x' rows' lengths'
-              partitions' inlog' g e room,
+          next_grows most_frame formatted t.drive t.intake m buf x answers inlog b m' buf' x' answers' inlog' g e room,
         );
   }
 
@@ -206,37 +206,37 @@ module _ (t : LoopState) (m buf inlog outlog outlog' : List ℕ) (at : ℕ) (h :
   last = cond (has_ended t.intake) (ended t.calls) (cut t.calls)
 
   -- whether it is `end`, by the outcome
-  ended_by : t.intake.outcome ≡ Ended → has_ended t.intake ≡ eqb t.intake.from t.intake.to
-  ended_by e = ap (λ (o : Outcome). ended_as o t.intake.from t.intake.to) e
+  ended_by : t.intake.stopped ≡ Some Ended → has_ended t.intake ≡ eqb t.intake.from t.intake.to
+  ended_by e = ap (λ (o : Option Stop). ended_as o t.intake.from t.intake.to) e
 
-  cut_by : (o : Outcome) → t.intake.outcome ≡ o → ended_as o t.intake.from t.intake.to ≡ false → has_ended t.intake ≡ false
-  cut_by o e f = ap (λ (o : Outcome). ended_as o t.intake.from t.intake.to) e ∙ f
+  cut_by : (o : Option Stop) → t.intake.stopped ≡ o → ended_as o t.intake.from t.intake.to ≡ false → has_ended t.intake ≡ false
+  cut_by o e f = ap (λ (o : Option Stop). ended_as o t.intake.from t.intake.to) e ∙ f
 
-  ending : (o : Outcome) → t.intake.outcome ≡ o → goes_on o ≡ false
+  ending : (o : Option Stop) → t.intake.stopped ≡ o → goes_on o ≡ false
       → LastLine o t.calls h.progress.session.input lines last
-  ending Running e s = absurd (true≢false s)
-  ending Ended e s =
-      let w : WholeInput most_frame reply_size Ended h.progress.session.input calls (pending_in buf t.intake) =
-      subst (λ (o : Outcome). WholeInput most_frame reply_size o h.progress.session.input calls (pending_in buf t.intake)) e
+  ending None e s = absurd (true≢false s)
+  ending (Some Ended) e s =
+      let w : WholeInput most_frame reply_size (Some Ended) h.progress.session.input calls (pending_in buf t.intake) =
+      subst (λ (o : Option Stop). WholeInput most_frame reply_size o h.progress.session.input calls (pending_in buf t.intake)) e
       h.whole in
       printed_all calls h.progress.session.input (pending_in buf t.intake) w.0 w.1
       ∙ ap (λ (n : ℕ). lines ++ last_line n (pending_in buf t.intake)) (sym h.progress.counted)
       ∙ ap (λ (l : List ℕ). lines ++ l)
       (last_by_place buf t.intake.from t.intake.to t.calls h.order h.within
       ∙ ap (λ (b : Bool). cond b (ended t.calls) (cut t.calls)) (sym (ended_by e)))
-  ending Malformed e s = λ q.
-      let w : WholeInput most_frame reply_size Malformed h.progress.session.input calls (pending_in buf t.intake) =
-      subst (λ (o : Outcome). WholeInput most_frame reply_size o h.progress.session.input calls (pending_in buf t.intake)) e
+  ending (Some Malformed) e s = λ q.
+      let w : WholeInput most_frame reply_size (Some Malformed) h.progress.session.input calls (pending_in buf t.intake) =
+      subst (λ (o : Option Stop). WholeInput most_frame reply_size o h.progress.session.input calls (pending_in buf t.intake)) e
       h.whole in
       let left : List ℕ = pending_in buf t.intake ++ q in
       let some : (length left is 0) ≡ false =
       ne_eqb (length left) 0 (λ z. absurd (omega (arith, w.0, z, length-append (pending_in buf t.intake) q))) in
       printed_all calls (h.progress.session.input ++ q) left (w.1 q).0 (w.1 q).1
       ∙ ap (λ (n : ℕ). lines ++ last_line n left) (sym h.progress.counted)
-      ∙ ap (λ (b : Bool). lines ++ cond b (ended t.calls) (cut t.calls)) (some ∙ sym (cut_by Malformed e refl))
-  ending Unread e s = ap (λ (b : Bool). cond b (ended t.calls) (cut t.calls)) (cut_by Unread e refl)
+      ∙ ap (λ (b : Bool). lines ++ cond b (ended t.calls) (cut t.calls)) (some ∙ sym (cut_by (Some Malformed) e refl))
+  ending (Some Unread) e s = ap (λ (b : Bool). cond b (ended t.calls) (cut t.calls)) (cut_by (Some Unread) e refl)
 
-  pub run-finished : goes_on t.intake.outcome ≡ false
+  pub run-finished : goes_on t.intake.stopped ≡ false
       → Added outlog t.logged last outlog' at
       → length outlog' ≡ length outlog
       → RunMet (record { drive = t.drive; intake = t.intake; calls = t.calls; logged = at; written = true }) m inlog outlog'
@@ -249,6 +249,6 @@ module _ (t : LoopState) (m buf inlog outlog outlog' : List ℕ) (at : ℕ) (h :
     taken = h.progress.session.taken;
     within = h.progress.session.within;
     reached = reached_by_lem;
-    ending = λ w. ending t.intake.outcome refl s;
+    ending = λ w. ending t.intake.stopped refl s;
     unwritten = λ w. absurd (true≢false w);
   }

@@ -3,15 +3,18 @@
 // written, before it waits for more; it reads and writes by buffers, and its memory does not grow with the input.
 #![tactic(auto)]
 
-ghost use Rattle.std.specs.Prelude.{◌≡◌, cond, ◌+◌, ◌*◌, ◌^◌, ◌≤◌, ◌<◌, length, take};
+ghost use Rattle.std.specs.Prelude.{◌≡◌, Ok, cond, map, ◌+◌, ◌*◌, ◌^◌, ◌≤◌, ◌<◌, length, take};
 ghost use Rattle.rules.specs.Program.{cut, formatted};
 ghost use Rattle.rules.specs.Program.{ended as program_ended};
-ghost use Rattle.lines.specs.Text.{TextPut};
 ghost use Rattle.drive.specs.Chain.{state_of};
 ghost use Rattle.logged.specs.Log.{Added};
-ghost use Rattle.gate.specs.Promises.{BuffersFit, lines_of, line_size, Progress, RoundMet, ServeMet, RunMet, has_ended};
+ghost use Rattle.reader.specs.Promises.{answered_row, answered_length};
+ghost use Rattle.gate.specs.Promises.{at_start, lines_of, line_size, loop_state, Progress, RoundMet, ServeMet, RunMet, has_ended};
 
-use reader::{Intake, Outcome};
+use drive::Drive;
+use lines::Last;
+use logged::WriteFailed;
+use reader::{Answered, Intake, Stop};
 use std::io::{Stdin, Stdout};
 
 // The medium, the reply space and the buffer of the output have so many bytes.
@@ -20,115 +23,88 @@ const BUFFER_SIZE: usize = 65536;
 // So many answers are taken at a time.
 const ANSWERS: usize = 1024;
 
-// The state between two rounds: the drive, the input, how many calls there have been, how many bytes the log of the output
-// has, and whether all of the output could be written.
+// The program's memory, but for the drive and the logs.
 #[derive(Drop)]
-struct LoopState {
-    drive: drive::Drive,
+struct Buffers {
+    medium: [u8; BUFFER_SIZE],
+    input: [u8; reader::INPUT_SIZE],
+    reply: [u8; BUFFER_SIZE],
+    answers: [Answered; ANSWERS],
+    out: [u8; BUFFER_SIZE],
+}
+
+// The state between two rounds: the input, how many calls there have been, how many bytes the log of the output has.
+#[derive(Clone, Copy)]
+struct Served {
     intake: Intake,
     calls: u64,
     logged: usize,
-    written: bool,
 }
 
 // Puts the lines of the calls after the first n at the start of out.
-fn put_lines(out: &mut [u8], n: u64, rows: &[u32], lengths: &[usize]) -> usize
-    requires { (length rows.now ≡ length lengths.now) × (length rows.now * line_size ≤ length out.old) × (n + length rows.now < 2 ^ 64) }
-    ensures { (result ≤ length out.old) × (take result out.new ≡ lines_of n rows.now lengths.now) }
+fn put_lines(out: &mut [u8], n: u64, answers: &[Answered]) -> usize
+    requires { (length answers.now * line_size ≤ length out.old) × (n + length answers.now < 2 ^ 64) }
+    ensures { (result ≤ length out.old) × (take result out.new ≡ lines_of n (map answered_row answers.now) (map answered_length answers.now)) }
 {
-    let mut put: usize = 0;
-    let mut i: usize = 0;
-    while i < rows.len() {
-        put = lines::put_line(out, put, n + i as u64 + 1, rows[i], lengths[i]);
-        i += 1;
+    let mut put = 0;
+    for (i, answered) in answers.iter().enumerate() {
+        let number = n + i as u64 + 1;
+        put = lines::put_line(out, put, number, answered.row(), answered.length());
     }
     put
 }
 
+// Kept, the new form is no plainer: here and below handles, drive, counts, buffers and logs one by one, since the clauses name each.
 // A round of the reader, and the lines of its calls.
 fn round(
     stdin: Stdin,
     stdout: Stdout,
-    t: LoopState,
-    medium: &mut [u8],
-    input: &mut [u8],
-    reply: &mut [u8],
-    rows: &mut [u32],
-    lengths: &mut [usize],
-    partitions: &mut [u8],
-    out: &mut [u8],
+    drive: &mut Drive,
+    served: &mut Served,
+    buffers: &mut Buffers,
     inlog: &mut [u8],
     outlog: &mut [u8],
-) -> LoopState
-    requires { Progress t medium.old input.old inlog.old outlog.old × BuffersFit reply.old rows.old lengths.old partitions.old out.old }
-    ensures { RoundMet t result medium.new input.new inlog.new outlog.new }
+) -> Result<(), WriteFailed>
+    requires { Progress (loop_state drive.old served.old (Ok tt)) buffers.old.medium buffers.old.input inlog.old outlog.old }
+    ensures { RoundMet (loop_state drive.old served.old (Ok tt)) (loop_state drive.new served.new result) buffers.new.medium buffers.new.input inlog.new outlog.new }
 {
-    let d = t.drive;
-    let i = t.intake;
-    let b = reader::next(
+    let count = reader::next(
         stdin,
-        d,
-        i,
+        drive,
+        &mut served.intake,
         reader::MOST_FRAME,
-        medium,
-        input,
-        reply,
-        rows,
-        lengths,
-        partitions,
+        &mut buffers.medium,
+        &mut buffers.input,
+        &mut buffers.reply,
+        &mut buffers.answers,
         inlog,
     );
-    let count = b.count;
-    let put = put_lines(out, t.calls, &rows[..count], &lengths[..count]);
-    let w = logged::write(stdout, &out[..put], outlog, t.logged);
-    let e = b.drive;
-    let j = b.intake;
-    LoopState {
-        drive: e,
-        intake: j,
-        calls: t.calls + count as u64,
-        logged: w.logged,
-        written: w.written,
-    }
+    let answers = &buffers.answers[..count];
+    let put = put_lines(&mut buffers.out, served.calls, answers);
+    served.calls += count as u64;
+    logged::write(stdout, &buffers.out[..put], outlog, &mut served.logged)
 }
 
 // Rounds until the input stops or the output can't be written.
+// Kept, the new form is no plainer: `report` has such a loop too, but each over a state, buffers and a promise of its own, so
+// one function for both would take a trait with all three as its ghost members, and this body is three lines.
 fn serve(
     stdin: Stdin,
     stdout: Stdout,
-    drive: drive::Drive,
-    medium: &mut [u8],
-    input: &mut [u8],
-    reply: &mut [u8],
-    rows: &mut [u32],
-    lengths: &mut [usize],
-    partitions: &mut [u8],
-    out: &mut [u8],
+    drive: &mut Drive,
+    served: &mut Served,
+    buffers: &mut Buffers,
     inlog: &mut [u8],
     outlog: &mut [u8],
-) -> LoopState
-    requires { (state_of drive medium.old ≡ formatted) × BuffersFit reply.old rows.old lengths.old partitions.old out.old }
-    ensures { ServeMet result medium.new input.new inlog.new outlog.new }
+) -> Result<(), WriteFailed>
+    requires { (state_of drive.old buffers.old.medium ≡ formatted) × (served.old ≡ at_start) }
+    ensures { ServeMet (loop_state drive.new served.new result) buffers.new.medium buffers.new.input inlog.new outlog.new }
 {
-    let mut t = LoopState {
-        drive,
-        intake: reader::start(),
-        calls: 0,
-        logged: 0,
-        written: true,
-    };
     loop {
-        t = round(
-            stdin, stdout, t, medium, input, reply, rows, lengths, partitions, out, inlog, outlog,
-        );
-        let i = t.intake;
-        let o = i.outcome;
-        if !t.written {
-            return t;
+        round(stdin, stdout, drive, served, buffers, inlog, outlog)?;
+        if served.intake.stopped.is_some() {
+            return Ok(());
         }
-        let Outcome::Running = o else {
-            return t;
-        };
     }
 }
 
@@ -136,103 +112,81 @@ fn serve(
 fn has_ended(t: Intake) -> bool
     ensures { result ≡ has_ended t }
 {
-    let o = t.outcome;
-    match o {
-        Outcome::Running => false,
-        Outcome::Ended => t.from == t.to,
-        Outcome::Malformed => false,
-        Outcome::Unread => false,
-    }
+    matches!(t.stopped, Some(Stop::Ended)) && t.from == t.to
 }
 
-// The last line: `end` where the input has ended behind a whole record, else `cut`.
-fn last_line(out: &mut [u8], ended: bool, calls: u64) -> usize
-    ensures { TextPut out.old 0 (cond ended (program_ended calls) (cut calls)) result out.new }
-{
-    if ended {
-        lines::put_end(out, 0, calls)
-    } else {
-        lines::put_cut(out, 0, calls)
-    }
-}
-
-// Writes the last line, and tells how many bytes the log of the output then has.
+// Writes the last line, `end` where the input has ended behind a whole record, else `cut`. `at` is how many bytes the log of
+// the output has.
 fn finish(
     stdout: Stdout,
     out: &mut [u8],
     ended: bool,
     calls: u64,
     outlog: &mut [u8],
-    at: usize,
-) -> usize
+    at: &mut usize,
+) -> Result<(), WriteFailed>
     requires { line_size ≤ length out.old }
-    ensures { Added outlog.old at (cond ended (program_ended calls) (cut calls)) outlog.new result }
+    ensures { Added outlog.old at.old (cond ended (program_ended calls) (cut calls)) outlog.new at.new }
 {
-    let n = last_line(out, ended, calls);
-    let w = logged::write(stdout, &out[..n], outlog, at);
-    w.logged
+    let last = if ended { Last::End } else { Last::Cut };
+    let n = lines::put_last(out, 0, last, calls);
+    logged::write(stdout, &out[..n], outlog, at)
 }
 
 // Document 01's program, from a freshly formatted drive: the rounds, and then the last line.
 fn run(
     stdin: Stdin,
     stdout: Stdout,
-    drive: drive::Drive,
-    medium: &mut [u8],
-    input: &mut [u8],
-    reply: &mut [u8],
-    rows: &mut [u32],
-    lengths: &mut [usize],
-    partitions: &mut [u8],
-    out: &mut [u8],
+    drive: &mut Drive,
+    served: &mut Served,
+    buffers: &mut Buffers,
     inlog: &mut [u8],
     outlog: &mut [u8],
-) -> LoopState
-    requires { (state_of drive medium.old ≡ formatted) × BuffersFit reply.old rows.old lengths.old partitions.old out.old }
-    ensures { RunMet result medium.new inlog.new outlog.new }
+) -> Result<(), WriteFailed>
+    requires { (state_of drive.old buffers.old.medium ≡ formatted) × (served.old ≡ at_start) }
+    ensures { RunMet (loop_state drive.new served.new result) buffers.new.medium inlog.new outlog.new }
 {
-    let t = serve(
-        stdin, stdout, drive, medium, input, reply, rows, lengths, partitions, out, inlog, outlog,
+    serve(stdin, stdout, drive, served, buffers, inlog, outlog)?;
+    let ended = has_ended(served.intake);
+    // That the last line could not be written changes nothing more.
+    let _ = finish(
+        stdout,
+        &mut buffers.out,
+        ended,
+        served.calls,
+        outlog,
+        &mut served.logged,
     );
-    if !t.written {
-        return t;
-    }
-    let d = t.drive;
-    let i = t.intake;
-    let logged = finish(stdout, out, has_ended(i), t.calls, outlog, t.logged);
-    LoopState {
-        drive: d,
-        intake: i,
-        calls: t.calls,
-        logged,
-        written: true,
-    }
+    Ok(())
 }
 
 fn main(rt: HostRuntime) {
-    let mut medium = [0u8; BUFFER_SIZE];
-    let mut input = reader::input_buffer();
-    let mut reply = [0u8; BUFFER_SIZE];
-    let mut rows = [0u32; ANSWERS];
-    let mut lengths = [0usize; ANSWERS];
-    let mut partitions = [0u8; ANSWERS];
-    let mut out = [0u8; BUFFER_SIZE];
-    let mut inlog: [u8; 0] = [];
-    let mut outlog: [u8; 0] = [];
-    let f = drive::format(&mut medium, 1, &[0u8; 32], &[1u8; 32]);
-    let d = f.drive;
-    run(
+    let no_answer = Answered {
+        answer: Ok(0),
+        partition: 0,
+    };
+    let mut buffers = Buffers {
+        medium: [0; BUFFER_SIZE],
+        input: reader::input_buffer(),
+        reply: [0; BUFFER_SIZE],
+        answers: [no_answer; ANSWERS],
+        out: [0; BUFFER_SIZE],
+    };
+    let mut served = Served {
+        intake: reader::start(),
+        calls: 0,
+        logged: 0,
+    };
+    let f = drive::format(&mut buffers.medium, 1, &[0u8; 32], &[1u8; 32]);
+    let mut drive = f.drive;
+    // Output that can't be written ends the program as the input's end does.
+    let _ = run(
         rt.stdin(),
         rt.stdout(),
-        d,
-        &mut medium,
-        &mut input,
-        &mut reply,
-        &mut rows,
-        &mut lengths,
-        &mut partitions,
-        &mut out,
-        &mut inlog,
-        &mut outlog,
+        &mut drive,
+        &mut served,
+        &mut buffers,
+        &mut [],
+        &mut [],
     );
 }

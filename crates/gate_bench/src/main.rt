@@ -3,10 +3,8 @@
 // frame), one behind the other, but a frame may be as long as document 01 lets it. It stops where no whole record follows.
 #![tactic(auto)]
 
-ghost use Rattle.std.specs.Prelude.{◌≡◌, length};
-
 use drive::Drive;
-use reader::{Batch, Outcome};
+use reader::Answered;
 use std::io;
 use std::io::Stdin;
 
@@ -29,118 +27,75 @@ const ANSWERS: usize = 1024;
 // A proved loop has to end, and nothing says that the input does: after so many rounds the program gives up.
 const ROUND_LIMIT: u64 = 0x8000000000000000;
 
-// The calls so far.
+// The program's memory, but for the drive.
 #[derive(Drop)]
+struct Buffers {
+    medium: [u8; MEDIUM_SIZE],
+    input: [u8; INPUT_SIZE],
+    reply: [u8; REPLY_SIZE],
+    answers: [Answered; ANSWERS],
+}
+
+// The calls so far.
+#[derive(Clone, Copy)]
 struct Tally {
     granted: u64,
     refused: u64,
 }
 
-fn medium_buffer() -> [u8; MEDIUM_SIZE]
-    ensures { 4259840 ≡ length result }
-{
-    [0; MEDIUM_SIZE]
-}
-
-fn input_buffer() -> [u8; INPUT_SIZE]
-    ensures { 2105344 ≡ length result }
-{
-    [0; INPUT_SIZE]
-}
-
-fn reply_buffer() -> [u8; REPLY_SIZE]
-    ensures { 65576 ≡ length result }
-{
-    [0; REPLY_SIZE]
-}
-
-fn no_calls() -> Tally {
-    Tally {
-        granted: 0,
-        refused: 0,
-    }
-}
-
-// The calls so far, and those with these rows.
-fn count(t: Tally, rows: &[u32]) -> Tally {
-    let mut granted = t.granted;
-    let mut refused = t.refused;
-    let mut i: usize = 0;
-    while i < rows.len() {
-        if rows[i] == 0 {
-            granted = granted.wrapping_add(1);
-        } else {
-            refused = refused.wrapping_add(1);
+impl Tally {
+    // These calls too.
+    fn count(&mut self, answers: &[Answered]) {
+        for answered in answers {
+            if answered.answer.is_ok() {
+                self.granted = self.granted.wrapping_add(1);
+            } else {
+                self.refused = self.refused.wrapping_add(1);
+            }
         }
-        i += 1;
-    }
-    Tally { granted, refused }
-}
-
-// Nothing has been read.
-fn no_batch(drive: Drive) -> Batch {
-    Batch {
-        drive,
-        intake: reader::start(),
-        count: 0,
     }
 }
 
 // Rounds of the reader until the input stops.
-fn run(
-    stdin: Stdin,
-    drive: Drive,
-    medium: &mut [u8],
-    input: &mut [u8],
-    reply: &mut [u8],
-    rows: &mut [u32],
-    lengths: &mut [usize],
-    partitions: &mut [u8],
-    inlog: &mut [u8],
-) -> Tally {
-    let mut b = no_batch(drive);
-    let mut t = no_calls();
-    let mut left = ROUND_LIMIT;
-    while left > 0 {
-        left -= 1;
-        let d = b.drive;
-        let i = b.intake;
-        b = reader::next(
-            stdin, d, i, MOST_FRAME, medium, input, reply, rows, lengths, partitions, inlog,
+fn run(stdin: Stdin, drive: &mut Drive, buffers: &mut Buffers) -> Tally {
+    let mut intake = reader::start();
+    let mut tally = Tally {
+        granted: 0,
+        refused: 0,
+    };
+    for _ in 0..ROUND_LIMIT {
+        let count = reader::next(
+            stdin,
+            drive,
+            &mut intake,
+            MOST_FRAME,
+            &mut buffers.medium,
+            &mut buffers.input,
+            &mut buffers.reply,
+            &mut buffers.answers,
+            &mut [],
         );
-        let j = b.intake;
-        let o = j.outcome;
-        let Outcome::Running = o else {
+        if intake.stopped.is_some() {
             break;
-        };
-        let n = b.count;
-        t = count(t, &rows[..n]);
+        }
+        tally.count(&buffers.answers[..count]);
     }
-    t
+    tally
 }
 
 fn main(rt: HostRuntime) -> io::Result<()> {
-    let mut medium = medium_buffer();
-    let mut input = input_buffer();
-    let mut reply = reply_buffer();
-    let mut rows = [0u32; ANSWERS];
-    let mut lengths = [0usize; ANSWERS];
-    let mut partitions = [0u8; ANSWERS];
-    let mut inlog: [u8; 0] = [];
-    let f = drive::format(&mut medium, 1, &[0u8; 32], &[1u8; 32]);
-    let d = f.drive;
-    let t = run(
-        rt.stdin(),
-        d,
-        &mut medium,
-        &mut input,
-        &mut reply,
-        &mut rows,
-        &mut lengths,
-        &mut partitions,
-        &mut inlog,
-    );
-    let granted = t.granted;
-    let refused = t.refused;
+    let no_answer = Answered {
+        answer: Ok(0),
+        partition: 0,
+    };
+    let mut buffers = Buffers {
+        medium: [0; MEDIUM_SIZE],
+        input: [0; INPUT_SIZE],
+        reply: [0; REPLY_SIZE],
+        answers: [no_answer; ANSWERS],
+    };
+    let f = drive::format(&mut buffers.medium, 1, &[0u8; 32], &[1u8; 32]);
+    let mut drive = f.drive;
+    let Tally { granted, refused } = run(rt.stdin(), &mut drive, &mut buffers);
     println!(rt; "{granted} granted, {refused} refused")
 }

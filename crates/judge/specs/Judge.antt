@@ -5,9 +5,11 @@
 -- target: the object that the frame reaches. place: where a new extent starts. room: the length of the reply space.
 use Rattle.std.specs.Prelude.{◌≡◌, refl, Bool, true, false, not, ◌&&◌, cond, List, ℕ, ◌+◌, length as count}
 use Rattle.std.proofs.Common.{ap, ◌∙◌}
+use Rattle.std.proofs.Math.Option
 use Rattle.std.proofs.Math.Option.{Option, none}
 use Rattle.lemmas.specs.Tests.{◌is◌, ◌isnt◌, ◌over◌, ◌under◌}
 use Rattle.lemmas.specs.Lists.{find, missing}
+use Rattle.lemmas.specs.Options.{option_of}
 use Rattle.lemmas.specs.RowTable.{first_row}
 use Rattle.rules.specs.declared.Credential.{Credential}
 use Rattle.rules.specs.declared.Request.{Request}
@@ -19,7 +21,8 @@ use Rattle.rules.specs.Drive.{last_version, most_objects, most_entries}
 use Rattle.rules.specs.BestFit.{extent_step, best_fit}
 use Rattle.rules.specs.Scope.{Scope}
 use Rattle.rules.specs.Group.{is_group_list, lists}
-use Rattle.rules.specs.Operations.{named_object, object_of, present_version, placement, reply_length}
+use Rattle.rules.specs.Operations.{named_object, no_object, object_of, present_version, placement, reply_length}
+use Rattle.rules.specs.Refusals.{answer_row}
 use Rattle.rules.specs.Rows.{
   expired,
   untimely,
@@ -48,17 +51,20 @@ use Rattle.rules.specs.Rows.{
   scope_rows,
 }
 use Rattle.group.specs.GroupRow.{group_row}
-use Rattle.state.specs.declared.Lookup.{Lookup}
-use Rattle.state.specs.Table.{lookup_in}
 use Rattle.judge.specs.declared.ScopeFacts.{ScopeFacts}
+use Rattle.judge.specs.declared.FrameFacts.{FrameFacts}
+
+-- the object, or where there is none all zeros
+abbrev pub object_or_none : Option Object → Object
+object_or_none o = Option.get_or o no_object
 
 -- where a new object's extent starts; none where no object is created
 abbrev pub placement_for : ℕ → List Object → Request → Option ℕ
 placement_for q l r = cond (r.operation isnt 5) none (best_fit extent_step q l r.B)
 
 -- the present version of what a number names: the partition's for number 0, else that of the object found
-abbrev pub present_version_in : ℕ → ℕ → Lookup → ℕ
-present_version_in version n found = cond (n is 0) version found.object.version
+abbrev pub present_version_in : ℕ → ℕ → Option Object → ℕ
+present_version_in version n found = cond (n is 0) version (object_or_none found).version
 
 -- what rows 32 and 33 say of a request, and of the bytes of the object that its credential names; 0 where neither applies
 abbrev pub list_row : List ℕ → Request → ℕ
@@ -71,14 +77,14 @@ time_row facts n c r rest =
     (cond (untimely facts.highwater r.time) 11
     (cond facts.replayed 12 (cond (lacks_right n c) 13 rest)))
 
-abbrev pub object_row : Credential → Request → Lookup → ℕ → ℕ → Lookup → ℕ → ℕ
+abbrev pub object_row : Credential → Request → Option Object → ℕ → ℕ → Option Object → ℕ → ℕ
 object_row c r found version listed target rest =
-    cond (c.object isnt 0 && found.missing) 14
+    cond (c.object isnt 0 && missing found) 14
     (cond (r.operation under 7 && c.version isnt version) 15
     (cond (listed isnt 0) listed
-    (cond (is_group_request r && target.missing) 34
+    (cond (is_group_request r && missing target) 34
     (cond (is_transfer r && out_of_range c.first c.end r.A r.B) 16
-    (cond (is_transfer r && r.A + r.B over target.object.size) 17 rest)))))
+    (cond (is_transfer r && r.A + r.B over (object_or_none target).size) 17 rest)))))
 
 abbrev pub room_row : rules.Partition Object → ℕ → Bool → Request → Option ℕ → ℕ → ℕ → ℕ
 room_row p held bad r place length room =
@@ -88,23 +94,21 @@ room_row p held bad r place length room =
     (cond (gives_version r && p.last is last_version) 21
     (cond bad 31 (cond (held is most_entries) 22 (cond (room under length) 23 0))))))
 
--- ---- what the code knows of a Scope s, of a request and its data: the facts, the partition, what the operation needs, whether
--- row 31 applies, what rows 32 and 33 say, the object that the credential names and the one that the frame reaches, where a new
--- extent would start, and the reply's length
-pub record FactsHold (s : Scope Object) (facts : ScopeFacts) (p : rules.Partition Object) (c : Credential) (n : Need)
-    (bad : Bool) (r : Request) (payload group : List ℕ) (listed : ℕ) (found target : Lookup) (place : Option ℕ)
-    (length : ℕ) : Type 0 where
+-- ---- what the code knows of a Scope s, and of a frame with the data `payload`, whose credential names the object of the bytes `group`:
+-- the facts, the partition, and what was worked out of the frame
+pub record FactsHold (s : Scope Object) (facts : ScopeFacts) (p : rules.Partition Object) (k : FrameFacts) (payload group : List ℕ)
+    : Type 0 where
   pub marked : s.high_water ≡ facts.highwater
   pub own : s.partition ≡ p
-  pub repeats : row12 s c r ≡ facts.replayed
+  pub repeats : row12 s k.credential k.request ≡ facts.replayed
   pub entries : count s.memory ≡ facts.held
-  pub need : need_of s c r ≡ n
-  pub load : row31 r payload ≡ bad
-  pub list : list_row group r ≡ listed
-  pub named : found ≡ lookup_in p.objects c.object
-  pub reached : target ≡ lookup_in p.objects (target_of c r)
-  pub placed : place ≡ cond (r.operation isnt 5) none (placement s r.B)
-  pub whole : length ≡ reply_length r
+  pub need : need_of s k.credential k.request ≡ k.need
+  pub load : row31 k.request payload ≡ k.badload
+  pub list : list_row group k.request ≡ answer_row k.listed
+  pub named : option_of k.found ≡ find Object.number k.credential.object p.objects
+  pub reached : option_of k.target ≡ find Object.number (target_of k.credential k.request) p.objects
+  pub placed : option_of k.place ≡ cond (k.request.operation isnt 5) none (placement s k.request.B)
+  pub whole : k.length ≡ reply_length k.request
 
 -- a place that is looked for only where one is needed judges row 20 the same
 place_when : (b : Bool) (place : Option ℕ) → (b && missing (cond (not b) none place)) ≡ (b && missing place)
@@ -137,11 +141,12 @@ member-reached l c r = go (is_group_request r)
     go false = refl
 
 -- ---- they are the rules' rows
-pub rows_by_facts : (s : Scope Object) (facts : ScopeFacts) (p : rules.Partition Object) (c : Credential) (n : Need)
-    (bad : Bool) (r : Request) (payload group : List ℕ) (listed : ℕ) (found target : Lookup) (place : Option ℕ) (length room : ℕ)
-    → FactsHold s facts p c n bad r payload group listed found target place length
-    → time_row facts n c r (object_row c r found (present_version_in p.version c.object found) listed target
-    (room_row p facts.held bad r place length room)) ≡ first_row (scope_rows s c r payload group room)
+pub rows_by_facts : (s : Scope Object) (facts : ScopeFacts) (p : rules.Partition Object) (k : FrameFacts) (payload group : List ℕ)
+    (room : ℕ) → FactsHold s facts p k payload group
+    → time_row facts k.need k.credential k.request
+    (object_row k.credential k.request (option_of k.found) (present_version_in p.version k.credential.object (option_of k.found))
+    (answer_row k.listed) (option_of k.target) (room_row p facts.held k.badload k.request (option_of k.place) k.length room))
+    ≡ first_row (scope_rows s k.credential k.request payload group room)
 unfolding
     first_row
     scope_rows
@@ -161,9 +166,9 @@ unfolding
     named_object
     object_of
     present_version
-    lookup_in
-rows_by_facts s facts p c n bad r payload group listed found target place length room w =
-    let w20 : (r.operation is 5 && missing place) ≡ (r.operation is 5 && missing (placement s r.B)) =
+rows_by_facts s facts p k payload group room w =
+    let r = k.request in
+    let w20 : (r.operation is 5 && missing (option_of k.place)) ≡ (r.operation is 5 && missing (placement s r.B)) =
     ap (λ (a : Option ℕ). r.operation is 5 && missing a) w.placed
     ∙ place_when (r.operation is 5) (placement s r.B) in
     rw (
@@ -172,7 +177,7 @@ rows_by_facts s facts p c n bad r payload group listed found target place length
       w.reached,
       ← w.list,
       list-joins group r _,
-      member-reached p.objects c r,
+      member-reached p.objects k.credential r,
       w.whole,
       ← w.marked,
       ← w.own,
@@ -181,3 +186,35 @@ rows_by_facts s facts p c n bad r payload group listed found target place length
       ← w.need,
       ← w.load,
     ) refl
+
+-- ---- rows that are judged apart: an answer of 0 goes on to the rest
+pub time_joins : (facts : ScopeFacts) (n : Need) (c : Credential) (r : Request) (rest : ℕ)
+    → time_row facts n c r rest ≡ cond (time_row facts n c r 0 is 0) rest (time_row facts n c r 0)
+time_joins facts n c r rest = go (expired facts.highwater c.expiry) (untimely facts.highwater r.time) facts.replayed (lacks_right n c)
+  where
+    go : (t u v w : Bool)
+        → (let f : ℕ → ℕ = λ (a : ℕ). cond t 10 (cond u 11 (cond v 12 (cond w 13 a))) in f rest ≡ cond (f 0 is 0) rest (f 0))
+    go true u v w = refl
+    go false true v w = refl
+    go false false true w = refl
+    go false false false true = refl
+    go false false false false = refl
+
+pub object_joins : (c : Credential) (r : Request) (found : Option Object) (version listed : ℕ) (target : Option Object) (rest : ℕ)
+    → object_row c r found version listed target rest
+    ≡ cond (object_row c r found version listed target 0 is 0) rest (object_row c r found version listed target 0)
+object_joins c r found version listed target rest =
+    go (c.object isnt 0 && missing found) (r.operation under 7 && c.version isnt version) (listed is 0) refl
+    (is_group_request r && missing target) (is_transfer r && out_of_range c.first c.end r.A r.B)
+    (is_transfer r && r.A + r.B over (object_or_none target).size)
+  where
+    go : (t u z : Bool) → (listed is 0) ≡ z → (v w y : Bool)
+        → (let f : ℕ → ℕ = λ (a : ℕ). cond t 14 (cond u 15 (cond (not z) listed (cond v 34 (cond w 16 (cond y 17 a))))) in
+        f rest ≡ cond (f 0 is 0) rest (f 0))
+    go true u z e v w y = refl
+    go false true z e v w y = refl
+    go false false false e v w y = rw e refl
+    go false false true e true w y = refl
+    go false false true e false true y = refl
+    go false false true e false false true = refl
+    go false false true e false false false = refl

@@ -1,47 +1,34 @@
--- A slot that is none of five names no key; a key's bytes copied to their place and its own byte stored.
-use mathlib.Core.Path.{◌≡◌, ap, ◌∙◌}
-use mathlib.Core.Bool.{true, ◌&&◌}
-use mathlib.Core.List.{List, [], ◌∷◌, append_assoc}
-use Prim.Native.Nat.{ℕ, ◌+◌, ◌*◌, ◌≤◌, ◌<◌}
+-- A key's bytes copied to their place and its own byte stored.
+use mathlib.Core.Path.{◌≡◌, ap, sym, ◌∙◌}
+use mathlib.Core.List.{List, [], ◌∷◌, ◌++◌, append_assoc}
+use Prim.Native.Nat.{ℕ, ◌+◌, ◌*◌, ◌<◌}
 use native.Mathlib.Omega.{arith}
-use lib.ListN.{length, set, take, drop, get_or-eq_default}
+use lib.ListN.{length, set, take, drop}
 use lib.Seq.{sets-eq}
-use borrow.Author.Tests.{le-leb}
-use Rattle.lemmas.specs.Tests.{◌under◌, ◌is◌}
+use borrow.Author.Tests.{lt-ltb, eq-eqb}
+use borrow.Rule.Slice.PartMut.{put_mid}
+use Rattle.std.proofs.lemmas.List.{drop-drop}
 use Rattle.lemmas.specs.Lists.{splice}
 use Rattle.lemmas.specs.Parts.{length-splice}
-use Rattle.octets.specs.Numbers.{bytes_put}
 use Rattle.rules.specs.Frame.{key_size}
-use Rattle.keyring.specs.Keys.{master_key_at, drive_key_at, partition_keys_from, working1_from, working0_from, keys_size, flags_from, key_count, index_among_four, key_index, key_stored}
-use Rattle.keyring.specs.KeyLaws.{fits_yes}
+use Rattle.keyring.specs.Keys.{keys_size, flags_from, key_count, key_stored}
 
-pub from_five : (n : ℕ) → (n ≡ 0 → ⊥) → (n ≡ 1 → ⊥) → (n ≡ 2 → ⊥) → (n ≡ 3 → ⊥) → (n ≡ 4 → ⊥) → 5 ≤ n
-from_five n a b c d e = omega arith
-
-pub no_place : (slot p : ℕ) → 5 ≤ slot → key_index slot p ≡ key_count
-unfolding key_index
-no_place slot p h = get_or-eq_default
-    (index_among_four working0_from p ∷ index_among_four working1_from p ∷ index_among_four partition_keys_from p ∷ drive_key_at
-    ∷ master_key_at ∷ []) key_count {n = slot} h
+-- bytes copied into a part of a list
+put_splice : (a k : ℕ) (s new : List ℕ) → length new ≡ k → put_mid a k s new ≡ splice s a new
+unfolding splice
+put_splice a k s new e =
+    ap (λ (l : List ℕ). take a s ++ (new ++ l)) (drop-drop k a s ∙ ap (λ (n : ℕ). drop (a + n) s) (sym e))
 
 store_splice : (s : List ℕ) (i x : ℕ) → i < length s → set s i x ≡ splice s i (x ∷ [])
 unfolding splice
 store_splice s i x h = sets-eq (x ∷ []) s i (omega arith) ∙ append_assoc (take i s) (x ∷ []) (drop (i + 1) s)
 
-module _ (j : ℕ) (new ks s : List ℕ) (h : (j under key_count && length ks is keys_size && length new is key_size) ≡ true)
-    (e : s ≡ bytes_put ks (key_size * j) new) where
-  copied : s ≡ splice ks (key_size * j) new
-  copied =
-      let f = fits_yes j new ks h in e ∙ (rw (le-leb (key_size * j + length new) (length ks) (omega arith)))
-
-  pub copied_length : length s ≡ keys_size
-  copied_length =
-      let f = fits_yes j new ks h in
-      ap length copied ∙ length-splice ks new (key_size * j) (omega arith) ∙ f.1
-
-  pub stored : set s (flags_from + j) 1 ≡ key_stored j new ks
-  unfolding key_stored
-  stored =
-      let f = fits_yes j new ks h in
-      rw h (store_splice s (flags_from + j) 1 (omega (arith, copied_length))
-      ∙ ap (λ (s : List ℕ). splice s (flags_from + j) (1 ∷ [])) copied)
+pub stored : (j k : ℕ) (new ks copy : List ℕ) → j < key_count → length ks ≡ keys_size → length new ≡ key_size
+    → k ≡ key_size → copy ≡ new → set (put_mid (key_size * j) k ks copy) (flags_from + j) 1 ≡ key_stored j new ks
+unfolding key_stored
+stored j k new ks copy h l f e c =
+    let first : put_mid (key_size * j) k ks copy ≡ splice ks (key_size * j) new
+    = ap (put_mid (key_size * j) k ks) c ∙ put_splice (key_size * j) k ks new (f ∙ sym e) in
+    let long : length (splice ks (key_size * j) new) ≡ keys_size = length-splice ks new (key_size * j) (omega arith) ∙ l in
+    rw (lt-ltb j key_count h, eq-eqb (length ks) keys_size l, eq-eqb (length new) key_size f, first)
+    (store_splice (splice ks (key_size * j) new) (flags_from + j) 1 (omega arith))

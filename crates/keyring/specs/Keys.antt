@@ -2,7 +2,7 @@
 -- byte for each key that says, not 0, that it was set. The keys are the four partitions' working keys 0 (black), their
 -- working keys 1 (gold), their partition keys, the drive key and the master key.
 -- j: a key's place. p: a partition.
-use Rattle.std.specs.Prelude.{Bool, ◌&&◌, cond, List, [], ◌∷◌, ℕ, ◌+◌, ◌*◌, length, get_or, replicate}
+use Rattle.std.specs.Prelude.{Bool, ◌&&◌, cond, List, [], ◌∷◌, ℕ, ◌+◌, ◌*◌, length, get_or, replicate, Option, Some, None}
 use Rattle.std.proofs.Math.Option.{none, some}
 use Rattle.lemmas.specs.Tests.{◌under◌, ◌is◌, ◌isnt◌}
 use Rattle.lemmas.specs.Lists.{part, splice}
@@ -64,7 +64,15 @@ keys_in ks = keys_by (key_at ks)
 abbrev pub is_set : List ℕ → ℕ → Bool
 is_set ks j = length ks is keys_size && j under key_count && get_or ks (flags_from + j) 0 isnt 0
 
+-- key j's bytes, none where it was never set
+abbrev pub set_key : List ℕ → ℕ → Option (List ℕ)
+set_key ks j = cond (is_set ks j) (Some (part ks (key_size * j) key_size)) None
+
 -- ---- which key is meant
+-- a key's place as the code has it: the count of keys is none
+abbrev pub place_of : ℕ → Option ℕ
+place_of j = cond (j under key_count) (Some j) None
+
 -- partition p's key among the four from a place on
 abbrev pub index_among_four : ℕ → ℕ → ℕ
 index_among_four first p = cond (p under partition_count) (first + p) key_count

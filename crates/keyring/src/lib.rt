@@ -4,7 +4,8 @@
 #![tactic(auto)]
 
 ghost use Rattle.std.specs.Prelude.{◌≡◌, ◌≤◌};
-ghost use Rattle.keyring.specs.Keys.{partition_keys_from, is_set, index_among_four, key_index, target_index, key_stored, formatted_keys};
+ghost use Rattle.std.specs.Option.{option_copied};
+ghost use Rattle.keyring.specs.Keys.{partition_keys_from, place_of, is_set, set_key, index_among_four, key_index, target_index, key_stored, formatted_keys};
 
 use rules::KEY_SIZE;
 
@@ -21,90 +22,102 @@ const DRIVE_KEY: usize = PARTITION_KEYS + PARTITIONS;
 
 const MASTER_KEY: usize = DRIVE_KEY + 1;
 
-// How many keys there are; as a place it is no key's.
+// How many keys there are.
 pub const KEY_COUNT: usize = MASTER_KEY + 1;
 
 // The first of the bytes that say which keys are set, and all bytes.
+// Kept for the C interface: a byte for each key says that it was set, since the caller lends the keys as one array of bytes.
 const FLAGS: usize = KEY_SIZE * KEY_COUNT;
 
 pub const KEYS: usize = FLAGS + KEY_COUNT;
 
 // Partition `p`'s key among the four from a place on, none past the four.
-fn index_among_four(first: usize, p: usize) -> usize
+fn index_among_four(first: usize, p: usize) -> Option<usize>
     requires { first ≤ partition_keys_from }
-    ensures { result ≡ index_among_four first p }
+    ensures { result ≡ place_of (index_among_four first p) }
 {
-    if p < PARTITIONS { first + p } else { KEY_COUNT }
+    if p < PARTITIONS {
+        Some(first + p)
+    } else {
+        None
+    }
 }
 
 // The key that a slot names, as partition `p` has it.
-pub fn key_index(slot: u8, p: usize) -> usize
-    ensures { result ≡ key_index slot p }
+#[tactic(auto, unfolding(crate::specs::Keys::key_index))]
+pub fn key_index(slot: u8, p: usize) -> Option<usize>
+    ensures { result ≡ place_of (key_index slot p) }
 {
     match slot {
         0 => index_among_four(WORKING0, p),
         1 => index_among_four(WORKING1, p),
         2 => index_among_four(PARTITION_KEYS, p),
-        3 => DRIVE_KEY,
-        4 => MASTER_KEY,
-        _ => KEY_COUNT,
+        3 => Some(DRIVE_KEY),
+        4 => Some(MASTER_KEY),
+        _ => None,
     }
 }
 
 // The key that operation 7 sets under a slot's key: slot 4 sets the drive key, slot 3 partition `a`'s, slot 2 working
 // key `a` of partition `p`.
-fn target_index(slot: u8, p: usize, a: usize) -> usize
-    ensures { result ≡ target_index slot p a }
+#[tactic(auto, unfolding(crate::specs::Keys::target_index))]
+fn target_index(slot: u8, p: usize, a: usize) -> Option<usize>
+    ensures { result ≡ place_of (target_index slot p a) }
 {
-    if slot == 4 {
-        return DRIVE_KEY;
+    match slot {
+        4 => Some(DRIVE_KEY),
+        3 => index_among_four(PARTITION_KEYS, a),
+        _ if a == 0 => index_among_four(WORKING0, p),
+        _ => index_among_four(WORKING1, p),
     }
-    if slot == 3 {
-        return index_among_four(PARTITION_KEYS, a);
-    }
-    if a == 0 {
-        return index_among_four(WORKING0, p);
-    }
-    index_among_four(WORKING1, p)
 }
 
 // Whether key `j` was ever set; false where there is none.
 pub fn is_set(keys: &[u8], j: usize) -> bool
     ensures { result ≡ is_set keys.now j }
 {
-    let there = (keys.len() == KEYS) & (j < KEY_COUNT);
-    if !there {
-        return false;
+    keys.len() == KEYS && j < KEY_COUNT && keys[FLAGS + j] != 0
+}
+
+// Key `j`, if it was ever set.
+pub fn key(keys: &[u8], j: usize) -> Option<&[u8]>
+    ensures { option_copied result ≡ set_key keys.now j }
+{
+    if !is_set(keys, j) {
+        return None;
     }
-    keys[FLAGS + j] != 0
+    Some(&keys[KEY_SIZE * j..KEY_SIZE * j + KEY_SIZE])
 }
 
 // Key `j` becomes `new`. Where there is none, or a length does not fit, nothing is written.
+#[tactic(auto, unfolding(crate::specs::Keys::key_stored))]
 fn store_at(keys: &mut [u8], j: usize, new: &[u8])
     ensures { keys.new ≡ key_stored j new.now keys.old }
 {
-    let fits = (j < KEY_COUNT) & (keys.len() == KEYS) & (new.len() == KEY_SIZE);
-    if !fits {
+    if j >= KEY_COUNT || keys.len() != KEYS || new.len() != KEY_SIZE {
         return;
     }
-    octets::copy_to(keys, KEY_SIZE * j, new);
+    keys[KEY_SIZE * j..KEY_SIZE * j + KEY_SIZE].copy_from_slice(new);
     keys[FLAGS + j] = 1;
 }
 
 // Operation 7 under a slot's key: the key that it sets becomes `new`.
+#[tactic(auto, unfolding(crate::specs::Keys::key_stored))]
 pub fn store_key(keys: &mut [u8], slot: u8, p: usize, a: usize, new: &[u8])
     ensures { keys.new ≡ key_stored (target_index slot p a) new.now keys.old }
 {
-    store_at(keys, target_index(slot, p, a), new);
+    if let Some(j) = target_index(slot, p, a) {
+        store_at(keys, j, new);
+    }
 }
 
 // A fresh drive's keys: master key and drive key are set, no other is. Where either is not 32 bytes, none is.
+#[tactic(auto, unfolding(crate::specs::Keys::formatted_keys))]
 pub fn new_keys(master: &[u8], drive: &[u8]) -> [u8; KEYS]
     ensures { result ≡ formatted_keys master.now drive.now }
 {
     let mut keys = [0u8; KEYS];
-    let fits = (master.len() == KEY_SIZE) & (drive.len() == KEY_SIZE);
-    if !fits {
+    if master.len() != KEY_SIZE || drive.len() != KEY_SIZE {
         return keys;
     }
     store_at(&mut keys, DRIVE_KEY, drive);

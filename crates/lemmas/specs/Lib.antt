@@ -15,3 +15,4 @@ pub mod Loops
 pub mod Fronts
 pub mod Zips
 pub mod Chunks
+pub mod Options

@@ -1,7 +1,11 @@
 -- Text put into a lent space, all of it or nothing.
 use Rattle.std.specs.Prelude.{◌≡◌, cond, List, ℕ, ◌+◌, leb, length, drop}
 use Rattle.octets.specs.Numbers.{bytes_put}
-use Rattle.lines.specs.declared.text.Text.{Text}
+use Rattle.rules.specs.Program.{ended, cut}
+use Rattle.rules.specs.Report.{total}
+use Rattle.lines.specs.declared.Last.{Last}
+use Rattle.lines.specs.declared.Last.TheVariants.{End, Cut, Calls}
+use Rattle.lines.specs.declared.buffer.Text.{Text}
 
 -- the room for a text, in bytes: the longest line has 63
 abbrev pub text_size : ℕ
@@ -10,6 +14,12 @@ text_size = 64
 -- the bytes of a text that is made from its end to its start
 abbrev pub text_of : Text → List ℕ
 text_of t = drop t.from t.bytes
+
+-- the last line after n calls, of `gate` and of `report`
+abbrev pub last_text : Last → ℕ → List ℕ
+last_text End n = ended n
+last_text Cut n = cut n
+last_text Calls n = total n
 
 -- the place after n bytes from place i on, where they lie within size; else i
 abbrev pub place_after : ℕ → ℕ → ℕ → ℕ

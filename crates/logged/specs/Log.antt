@@ -1,6 +1,6 @@
 -- A log in a lent space: the bytes of a history, from its first on, as far as the space has room. log: the space.
 -- at: how many bytes of it the log has. h: the history.
-use Rattle.std.specs.Prelude.{◌≡◌, List, [], ◌++◌, ℕ, ◌+◌, ◌-◌, ◌≤◌, min, length, take, drop}
+use Rattle.std.specs.Prelude.{◌≡◌, List, [], ◌++◌, Result, Ok, Err, ℕ, ◌+◌, ◌-◌, ◌≤◌, min, length, take, drop}
 use Rattle.std.proofs.Common.{sym, ap, ◌∙◌, append-nil, arith, take_all, take-add, take_at, drop_at, length-take-le, le-leb}
 use Rattle.std.proofs.Math.Decide.{dec_le}
 use Rattle.std.proofs.lemmas.List.{take-append-le}
@@ -8,6 +8,7 @@ use Rattle.std.proofs.Math.Seq.{take-nil}
 use Rattle.lemmas.specs.Parts.{length-splice}
 use Rattle.octets.specs.Numbers.{bytes_put}
 use Rattle.octets.specs.Behind.{put_behind}
+use Rattle.logged.specs.declared.ReadFailed.{ReadFailed}
 
 -- the log is of the history h
 abbrev pub Logged : List ℕ → ℕ → List ℕ → Type 0
@@ -16,6 +17,11 @@ Logged log at h = (at ≤ length log) × (take at log ≡ take (length log) h)
 -- bytes have been added to it
 abbrev pub Added : List ℕ → ℕ → List ℕ → List ℕ → ℕ → Type 0
 Added log at bytes log' at' = Logged log' at' (take at log ++ bytes)
+
+-- how many bytes a read brought: none where it failed
+abbrev pub count_of : Result ℕ ReadFailed → ℕ
+count_of (Ok n) = n
+count_of (Err e) = 0
 
 -- ---- laws
 -- of no history there is a log in any space

@@ -3,71 +3,62 @@
 // many. Nothing reads a log. A program lends logs of no byte, and nothing is copied.
 #![tactic(auto)]
 
-ghost use Rattle.std.specs.Prelude.{◌≤◌, ◌≡◌, length, take, IfSome};
-ghost use Rattle.logged.specs.Log.{Added};
+ghost use Rattle.std.specs.Prelude.{◌≤◌, ◌≡◌, length, take, IfOk};
+ghost use Rattle.logged.specs.Log.{Added, count_of};
 
-use lemmas::smaller;
 use std::io::{ErrorKind, Read, Stdin, Stdout, Write};
 
 // A proved loop has to end: a read that was interrupted so often has failed.
 const MOST_TRIES: u64 = 0x8000000000000000;
 
-// How many bytes a read brought, 0 at the end of the input or where the space is empty; whether it failed; how many bytes
-// the log has.
-#[derive(Clone, Copy)]
-pub struct ReadResult {
-    pub count: usize,
-    pub failed: bool,
-    pub logged: usize,
-}
+// A read failed: more of the input may be to come.
+#[derive(Clone, Copy, Debug, PartialEq, Eq)]
+pub struct ReadFailed;
 
-// Whether all could be written; how many bytes the log has.
-#[derive(Clone, Copy)]
-pub struct WriteResult {
-    pub written: bool,
-    pub logged: usize,
-}
+// Not all could be written.
+#[derive(Clone, Copy, Debug, PartialEq, Eq)]
+pub struct WriteFailed;
 
+// Kept, the new form is no plainer: here and below a log and how many of its bytes are in use, which outlive the call; a struct of both
+// would be lent in their place.
 // Adds bytes to the log, the first `at` bytes of log or all of it where it has fewer, as far as it has room.
-fn add(log: &mut [u8], at: usize, bytes: &[u8]) -> usize
-    ensures { Added log.old at bytes.now log.new result }
+fn add(log: &mut [u8], at: &mut usize, bytes: &[u8])
+    ensures { Added log.old at.old bytes.now log.new at.new }
 {
-    let end = smaller(at, log.len());
-    let n = smaller(bytes.len(), log.len() - end);
+    let end = (*at).min(log.len());
+    let n = bytes.len().min(log.len() - end);
     octets::copy_to(log, end, &bytes[..n]);
-    end + n
+    *at = end + n;
 }
 
-// One read of standard input, tried again where a signal interrupts it: how many bytes it brought, none where it failed.
-fn read_input(mut stdin: Stdin, space: &mut [u8]) -> Option<usize>
-    ensures { IfSome result (λ n. n ≤ length space.new) }
+// One read of standard input, tried again where a signal interrupts it: how many bytes it brought.
+fn read_input(mut stdin: Stdin, space: &mut [u8]) -> Result<usize, ReadFailed>
+    ensures { IfOk result (λ n. n ≤ length space.new) }
 {
     for _ in 0..MOST_TRIES {
         match stdin.read(space) {
-            Ok(n) => return Some(n),
-            Err(e) => {
-                if e.kind() != ErrorKind::Interrupted {
-                    return None;
-                }
-            }
+            Ok(n) => return Ok(n),
+            Err(e) if e.kind() == ErrorKind::Interrupted => {}
+            Err(_) => return Err(ReadFailed),
         }
     }
-    None
+    Err(ReadFailed)
 }
 
-// One read, logged.
-pub fn read(stdin: Stdin, space: &mut [u8], log: &mut [u8], at: usize) -> ReadResult
-    ensures { (result.count ≤ length space.old) × Added log.old at (take result.count space.new) log.new result.logged }
+// One read, logged: how many bytes it brought, 0 at the end of the input or where the space is empty. `at` is how many bytes
+// the log has.
+pub fn read(
+    stdin: Stdin,
+    space: &mut [u8],
+    log: &mut [u8],
+    at: &mut usize,
+) -> Result<usize, ReadFailed>
+    ensures { (count_of result ≤ length space.old) × Added log.old at.old (take (count_of result) space.new) log.new at.new }
 {
     let got = read_input(stdin, space);
-    let failed = got.is_none();
     let count = got.unwrap_or(0);
-    let logged = add(log, at, &space[..count]);
-    ReadResult {
-        count,
-        failed,
-        logged,
-    }
+    add(log, at, &space[..count]);
+    got
 }
 
 // Reads until the space is full, the input ends or a read fails: how many bytes it brought, at the start of the space. No log.
@@ -75,23 +66,25 @@ pub fn read_full(stdin: Stdin, space: &mut [u8]) -> usize
     ensures { result ≤ length space.new }
 {
     let mut done: usize = 0;
+    // Kept, the new form is no plainer: each turn goes on by as many bytes as its read brought, which no range or slice counts.
     while done < space.len() {
-        let got = read_input(stdin, &mut space[done..]).unwrap_or(0);
-        if got == 0 {
-            break;
+        match read_input(stdin, &mut space[done..]) {
+            Ok(n) if n > 0 => done += n,
+            _ => break,
         }
-        done += got;
     }
     done
 }
 
-// Writes all bytes, or as many as can be written, and logs that they were to be written.
-pub fn write(mut stdout: Stdout, bytes: &[u8], log: &mut [u8], at: usize) -> WriteResult
-    ensures { Added log.old at bytes.now log.new result.logged }
+// Writes all bytes, or as many as can be written, and logs that they were to be written. `at` is how many bytes the log has.
+pub fn write(
+    mut stdout: Stdout,
+    bytes: &[u8],
+    log: &mut [u8],
+    at: &mut usize,
+) -> Result<(), WriteFailed>
+    ensures { Added log.old at.old bytes.now log.new at.new }
 {
-    let logged = add(log, at, bytes);
-    WriteResult {
-        written: stdout.write_all(bytes).is_ok(),
-        logged,
-    }
+    add(log, at, bytes);
+    stdout.write_all(bytes).map_err(|_| WriteFailed)
 }

@@ -1,5 +1,8 @@
 -- Laws of `entries_in`: how many entries there are, the i-th, one entered, and what a part of both rows is of the entries.
-use Rattle.std.specs.Prelude.{◌≡◌, ℕ, ◌+◌, ◌-◌, ◌*◌, ◌/◌, ◌<◌, ◌≤◌, false, not, List, [], ◌++◌, map, length, take, drop, nat_lt, slice_index, slice_index_or, slice_set}
+use Rattle.std.specs.Prelude.{◌≡◌, Bool, ◌||◌, ℕ, zero, suc, ◌+◌, ◌-◌, ◌*◌, ◌/◌, ◌<◌, ◌≤◌, false, not, List, [], ◌∷◌, ◌++◌, map, length, take, drop, nat_lt, slice_index, slice_index_or, slice_set}
+use Rattle.std.specs.List.{list_any, zip}
+use Rattle.std.specs.Simd.{first_chunks}
+use mathlib.Core.List.{zip_with}
 use Rattle.std.proofs.Math.Path.{refl, ap}
 use Rattle.std.proofs.Common.{sym, ◌∙◌, length-take, ext_get_or, get_or-take, take_all}
 use Rattle.std.proofs.Math.Decide.{dec_lt}
@@ -159,3 +162,28 @@ module _ (mark : ℕ) (es ts fs us : List ℕ) (r : ℕ) (p : Purged mark es ts 
 
   pub purged_times : length us ≡ length ts
   purged_times = as_long r us ts (omega (arith, after)) (omega (arith, before)) p.times
+
+-- ---- a search over the entries, as the code makes it over their numbers and times
+pub some_any : {A : Type 0} (t : A → Bool) (xs : List A) → some? t xs ≡ list_any t xs
+unfolding some?
+some_any t [] = refl
+some_any t (x ∷ xs) = ap (λ (b : Bool). t x || b) (some_any t xs)
+
+chunks_are : (n : ℕ) (l : List ℕ) → chunks entry_size n l ≡ first_chunks entry_size n l
+unfolding chunks
+chunks_are zero l = refl
+chunks_are (suc n) l = ap (λ (r : List (List ℕ)). take entry_size l ∷ r) (chunks_are n (drop entry_size l))
+
+some_zipped : (t : Entry → Bool) (ls : List (List ℕ)) (ts : List ℕ)
+    → some? t (zip_with entry_of ls ts) ≡ list_any (λ (p : List ℕ × ℕ). t (entry_of p.0 p.1)) (zip ls ts)
+unfolding some? zip_with
+some_zipped t [] ts = refl
+some_zipped t (l ∷ ls) [] = refl
+some_zipped t (l ∷ ls) (time ∷ ts) = ap (λ (b : Bool). t (entry_of l time) || b) (some_zipped t ls ts)
+
+pub some_held : (t : Entry → Bool) (es ts : List ℕ) → some? t (entries_in es ts)
+    ≡ list_any (λ (p : List ℕ × ℕ). t (entry_of p.0 p.1)) (zip (first_chunks entry_size (length es / entry_size) es) ts)
+unfolding entries_in
+some_held t es ts =
+    ap (λ (ls : List (List ℕ)). some? t (zip_with entry_of ls ts)) (chunks_are (length es / entry_size) es)
+    ∙ some_zipped t (first_chunks entry_size (length es / entry_size) es) ts

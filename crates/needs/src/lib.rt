@@ -6,8 +6,6 @@ ghost use Rattle.std.specs.Prelude.{◌≡◌, ◌-◌, ◌<◌, ◌^◌, min, g
 ghost use Rattle.rules.specs.Needs.{default_need, good_need, good_needs, need_at, needs_at};
 ghost use Rattle.rules.specs.Rows.{lacks_right, low_level};
 
-use lemmas::{pick, smaller};
-
 // A table has needs for operations 1 to 7, "two of mask and one of level for each operation in order".
 pub const TABLE_OPERATIONS: usize = 7;
 
@@ -24,14 +22,14 @@ const HIGHEST_LEVEL: u32 = 2;
 pub fn table_place(k: usize) -> usize
     ensures { result ≡ k - 1 }
 {
-    if k < 1 { 0 } else { k - 1 }
+    k.saturating_sub(1)
 }
 
 // The right that document 01 asks for: "Operation k needs rights bit k − 1", and 8 is treated as 7.
 fn default_mask(k: u8) -> u32
     ensures { result ≡ 2 ^ (min k 7 - 1) }
 {
-    1 << table_place(smaller(k as usize, TABLE_OPERATIONS))
+    1 << table_place(usize::from(k).min(TABLE_OPERATIONS))
 }
 
 // Document 01's rule for operation k, operation 8 treated as 7.
@@ -40,7 +38,7 @@ pub fn default_need(k: u8) -> rules::Need
 {
     rules::Need {
         mask: default_mask(k),
-        least: pick(k < 7, 0, 1),
+        least: if k < 7 { 0 } else { 1 },
     }
 }
 
@@ -48,21 +46,22 @@ pub fn default_need(k: u8) -> rules::Need
 pub fn low_level(n: rules::Need, c: rules::Credential, r: rules::Request) -> bool
     ensures { result ≡ low_level n c r }
 {
-    (r.level < c.least) | ((r.level as u32) < n.least)
+    (r.level < c.least) | (u32::from(r.level) < n.least)
 }
 
 // Row 13, of an operation that needs n: not every right of its mask is there.
 pub fn lacks_right(n: rules::Need, c: rules::Credential) -> bool
     ensures { result ≡ lacks_right n c }
 {
-    n.mask & c.rights as u32 != n.mask
+    n.mask & u32::from(c.rights) != n.mask
 }
 
+// Kept, the new form is no plainer: bytes and a place in them, since a table's bytes may be lacking.
 // The byte at a place, 0 past the end.
-fn byte_at(bytes: &[u8], at: usize) -> u32
-    ensures { (result ≡ get_or bytes.now at 0) × (result < 256) }
+fn byte_at(bytes: &[u8], at: usize) -> u8
+    ensures { result ≡ get_or bytes.now at 0 }
 {
-    octets::number(bytes, at, 1) as u32
+    bytes.get(at).copied().unwrap_or(0)
 }
 
 // What operation k needs by a table's bytes; a byte past their end is 0.
@@ -77,8 +76,8 @@ pub fn need_at(bytes: &[u8], k: usize) -> rules::Need
     let high = byte_at(bytes, at);
     let low = byte_at(bytes, at + 1);
     rules::Need {
-        mask: 256 * high + low,
-        least: byte_at(bytes, at + 2),
+        mask: u32::from(u16::from_be_bytes([high, low])),
+        least: u32::from(byte_at(bytes, at + 2)),
     }
 }
 
@@ -93,11 +92,8 @@ pub fn is_good(bytes: &[u8]) -> bool
     ensures { result ≡ good_needs (needs_at bytes.now) }
 {
     let mut good = true;
-    let mut i: usize = 0;
-    while i < TABLE_OPERATIONS {
-        good = good & is_good_need(need_at(bytes, i + 1));
-        i += 1;
+    for i in 0..TABLE_OPERATIONS {
+        good &= is_good_need(need_at(bytes, i + 1));
     }
-    let last = need_at(bytes, TABLE_OPERATIONS);
-    good & (1 <= last.least)
+    good & (need_at(bytes, TABLE_OPERATIONS).least >= 1)
 }

@@ -1,2 +1,3 @@
 -- Laws for the loops over fields.
+pub mod Copies
 mod FieldLaws

@@ -4,23 +4,21 @@ ghost use Rattle.octets.specs.Fields.{fields_fit, fields_read, fields_written};
 
 use crate::places;
 
+// Kept, the new form is no plainer: here and below a slice and a place in it, as in lib.rt: the fields may not be all there.
 // Whether `count` fields of these widths, each of eight bytes at most, lie within len from place at on. It counts down the
 // bytes that are left: a sum could pass 64 bits.
 fn fields_fit(len: usize, at: usize, widths: &[usize], count: usize) -> bool
     ensures { result ≡ fields_fit len at widths.now count }
 {
-    if (at > len) | (count != widths.len()) {
+    if at > len || count != widths.len() {
         return false;
     }
     let mut rest = len - at;
-    let mut i: usize = 0;
-    while i < widths.len() {
-        let w = widths[i];
-        if (w > 8) | (w > rest) {
+    for w in widths {
+        if *w > 8 || *w > rest {
             return false;
         }
-        rest -= w;
-        i += 1;
+        rest -= *w;
     }
     true
 }
@@ -34,12 +32,9 @@ pub fn read(s: &[u8], at: usize, widths: &[usize], numbers: &mut [u64])
         return;
     }
     let mut place = at;
-    let mut i: usize = 0;
-    while i < widths.len() {
-        let w = widths[i];
-        numbers[i] = places::number_at(s, place, w);
-        place += w;
-        i += 1;
+    for (i, w) in widths.iter().enumerate() {
+        numbers[i] = places::number_at(s, place, *w);
+        place += *w;
     }
 }
 
@@ -52,11 +47,8 @@ pub fn write(s: &mut [u8], at: usize, widths: &[usize], numbers: &[u64])
         return;
     }
     let mut place = at;
-    let mut i: usize = 0;
-    while i < widths.len() {
-        let w = widths[i];
-        places::put_at(s, place, w, numbers[i]);
-        place += w;
-        i += 1;
+    for (w, x) in widths.iter().zip(numbers) {
+        places::put_at(s, place, *w, *x);
+        place += *w;
     }
 }

@@ -1,4 +1,6 @@
 // Bytes at a place of a lent slice: big-endian numbers read and written, bytes copied and compared.
+// Kept, the new form is no plainer: a slice and a place in it, and not the part from there on. The place may lie outside of the
+// slice, and these functions say what happens then; a caller that cut the slice first would have to say it each time.
 #![tactic(auto)]
 
 ghost use Rattle.std.specs.Prelude.{◌≡◌, ◌+◌, ◌<◌, ◌^◌, leb};
@@ -8,21 +10,19 @@ ghost use Rattle.octets.specs.Numbers.{number_in, number_put, bytes_put};
 pub mod layout;
 mod places;
 
-// Whether n bytes from place at on lie within len. It compares differences: at + n could pass 64 bits.
+// Whether n bytes from place at on lie within len. Where at + n passes 64 bits they do not.
 pub fn fits(len: usize, at: usize, n: usize) -> bool
     ensures { result ≡ leb (at + n) len }
 {
-    if n > len {
-        return false;
-    }
-    at <= len - n
+    at.checked_add(n).is_some_and(|end| end <= len)
 }
 
 // The number that the n bytes from place at on spell; 0 where they are more than eight, or not all there.
+#[tactic(auto, using(lemmas::specs::BigEndian::power_positive))]
 pub fn number(s: &[u8], at: usize, n: usize) -> u64
     ensures { (result ≡ number_in s.now at n) × (result < 256 ^ n) }
 {
-    if (n > 8) | !fits(s.len(), at, n) {
+    if n > 8 || !fits(s.len(), at, n) {
         return 0;
     }
     places::number_at(s, at, n)
@@ -46,10 +46,8 @@ pub fn same(a: &[u8], b: &[u8]) -> bool
         return false;
     }
     let mut diff: u8 = 0;
-    let mut i: usize = 0;
-    while i < a.len() {
-        diff |= a[i] ^ b[i];
-        i += 1;
+    for (x, y) in a.iter().zip(b) {
+        diff |= x ^ y;
     }
     diff == 0
 }

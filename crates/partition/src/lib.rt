@@ -14,27 +14,18 @@ pub fn apply(table: &mut [u32], o: Operation, number: u32, version: u32, start: 
         (content_after o number version start (needs_at bytes.now) table.old) }
 {
     match o {
-        Operation::Read {
-            offset: _,
-            length: _,
-        } => {}
-        Operation::Write {
-            offset: _,
-            length: _,
-        } => {}
-        Operation::Look => {}
         Operation::Raise => state::raise(table, number, version),
-        Operation::Create { number, size } => {
-            let object = Object {
-                number: number,
-                version: version,
-                size: size,
-                start: start,
-            };
-            state::create(table, object);
-        }
+        Operation::Create { number, size } => state::create(
+            table,
+            Object {
+                number,
+                version,
+                size,
+                start,
+            },
+        ),
         Operation::Delete => state::delete(table, number),
-        Operation::SetKey { target: _ } => {}
         Operation::LoadTable => state::load(table, bytes),
+        _ => {}
     }
 }

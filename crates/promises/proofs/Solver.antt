@@ -17,7 +17,7 @@ use Rattle.rules.specs.Frame.{covered, Fields, fields, operation, request_at, ta
 use Rattle.rules.specs.Ledger.{bytes_of, Ledger, ledger_start, tables_of}
 use Rattle.rules.specs.Operations.{credential_key, head_size, result_length}
 use Rattle.rules.proofs.Clear.{asks_for}
-use Rattle.drive.specs.declared.Formatted.{Formatted}
+use Rattle.drive.specs.Answers.{Formatted}
 use Rattle.drive.specs.Chain.{after, CallMade, CallMet, Chain, DriveState, ledger_after_calls, MadeFromFormat}
 use Rattle.drive.specs.View.{view}
 use Rattle.drive.proofs.Calls.{chain_rest}

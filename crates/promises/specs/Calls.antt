@@ -7,12 +7,11 @@ use Rattle.rules.specs.Client as rules
 use Rattle.rules.specs.Drive as rules_drive
 use Rattle.rules.specs.Frame.{credential_size}
 use Rattle.rules.specs.Gate as rules_gate
-use Rattle.drive.specs.declared.Formatted.{Formatted}
+use Rattle.drive.specs.Answers.{Formatted}
 use Rattle.drive.specs.Chain.{CallMade}
 use Rattle.drive.specs.Met.{FormatMet}
 use Rattle.drive.specs.View.{view}
-use Rattle.client.specs.declared.Built.{Built}
-use Rattle.client.specs.declared.Issued.{Issued}
+use Rattle.client.specs.Answers.{Built, Issued}
 use Rattle.client.specs.Met.{BuildMet, IssueMet}
 use Rattle.reply_check.specs.Met.{CheckMet, Slice}
 

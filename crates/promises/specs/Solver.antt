@@ -10,7 +10,7 @@ use Rattle.rules.specs.Frame.{CredentialFits, operation, request_at, target_of}
 use Rattle.rules.specs.Ledger.{bytes_of, Ledger, ledger_start}
 use Rattle.rules.specs.Operations.{head_size}
 use Rattle.drive.specs.declared.Drive.{Drive}
-use Rattle.drive.specs.declared.Formatted.{Formatted}
+use Rattle.drive.specs.Answers.{Formatted}
 use Rattle.drive.specs.Chain.{CallMade, Granted, ledger_after_calls, MadeFromFormat}
 use Rattle.drive.specs.Lent.{LentCall, LentFromFormat, made_from}
 use Rattle.reply_check.specs.Met.{place_after}

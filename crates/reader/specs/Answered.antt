@@ -15,7 +15,7 @@ use Rattle.rules.specs.Gate.{gate, granted, refused, after_refusal, whole_answer
 use Rattle.rules.specs.Demands.{answer, step}
 use Rattle.rules.specs.Program.{call_in, clock_in, frame_in}
 use Rattle.drive.specs.declared.Drive.{Drive}
-use Rattle.drive.specs.declared.Answer.{Answer}
+use Rattle.drive.specs.Answers.{Answer}
 use Rattle.drive.specs.View.{view}
 use Rattle.drive.specs.Chain.{state_of}
 use Rattle.drive.specs.Met.{GateMet, call_of}

@@ -1,6 +1,6 @@
 -- Bytes that arrive in an input buffer: what the functions of src/arrivals.rt promise each other, and the laws under
 -- them. t: the input before. buf: the input buffer. inlog: the log of the input. r, buf', inlog': the same after.
-use Rattle.std.specs.Prelude.{◌≡◌, refl, Bool, true, false, ◌&&◌, cond, List, [], ◌++◌, ℕ, ◌+◌, ◌-◌, ◌≤◌, ◌<◌, min, leb, eqb, length, take, drop}
+use Rattle.std.specs.Prelude.{◌≡◌, refl, Bool, true, false, ◌&&◌, cond, List, [], ◌++◌, Option, None, Some, Result, Ok, Err, ℕ, ◌+◌, ◌-◌, ◌≤◌, ◌<◌, min, leb, eqb, length, take, drop}
 use Rattle.std.proofs.Common.{sym, ap, subst, ◌∙◌, true≢false, append-nil, arith, length-append, length-drop, take_all, take_at, take-add, drop_at, length-take-le, eq-eqb, ne_eqb}
 use Rattle.std.proofs.Math.Decide.{dec_le}
 use Rattle.std.proofs.lemmas.List.{take-append-le, drop-append-le}
@@ -8,11 +8,11 @@ use Rattle.lemmas.specs.Lists.{part, splice}
 use Rattle.lemmas.specs.Parts.{length_part, length-splice, part-new}
 use Rattle.lemmas.specs.Tests.{◌under◌}
 use Rattle.rules.specs.Program.{broken}
-use Rattle.logged.specs.Log.{Added, Logged, added_none, take_most}
-use Rattle.logged.specs.declared.ReadResult.{ReadResult}
+use Rattle.logged.specs.Log.{Added, Logged, added_none, count_of, take_most}
+use Rattle.logged.specs.declared.ReadFailed.{ReadFailed}
 use Rattle.reader.specs.declared.Intake.{Intake}
-use Rattle.reader.specs.declared.Outcome.{Outcome}
-use Rattle.reader.specs.declared.Outcome.TheVariants.{Running, Ended, Malformed, Unread}
+use Rattle.reader.specs.declared.Stop.{Stop}
+use Rattle.reader.specs.declared.Stop.TheVariants.{Ended, Malformed, Unread}
 use Rattle.reader.specs.Promises.{between, pending_in, input_limit, most_read, OutcomeMet, FillMet}
 
 -- ---- the places of the pending bytes
@@ -27,17 +27,17 @@ placed_in n k t = record {
   to = min t.to n;
   received = t.received;
   logged = min t.logged k;
-  outcome = Running;
+  stopped = None;
 }
 
--- the same, with another outcome
-abbrev pub stopped_at : Intake → Outcome → Intake
+-- the same, and whether the input stops
+abbrev pub stopped_at : Intake → Option Stop → Intake
 stopped_at t o = record {
   from = t.from;
   to = t.to;
   received = t.received;
   logged = t.logged;
-  outcome = o;
+  stopped = o;
 }
 
 -- ---- room for a read behind them
@@ -55,7 +55,7 @@ at_front t = record {
   to = t.to - t.from;
   received = t.received;
   logged = t.logged;
-  outcome = Running;
+  stopped = None;
 }
 
 pub record MakeRoomMet (t : Intake) (buf : List ℕ) (r : Intake) (buf' : List ℕ) : Type 0 where
@@ -63,26 +63,27 @@ pub record MakeRoomMet (t : Intake) (buf : List ℕ) (r : Intake) (buf' : List �
   pub content : buf' ≡ cond (stays (length buf) t) buf (splice buf 0 (pending_in buf t))
 
 -- ---- a read
--- whether the input goes on after it: it brought something, or failed, or found the end
-abbrev pub outcome_of : ReadResult → Outcome
-outcome_of got = cond (eqb got.count 0) (cond got.failed Unread Ended) Running
+-- why the input stops after it: it brought nothing, or failed
+abbrev pub stop_of : Result ℕ ReadFailed → Option Stop
+stop_of (Ok n) = cond (eqb n 0) (Some Ended) None
+stop_of (Err e) = Some Unread
 
 -- what it brought is pending too, and has been received
-abbrev pub after_read : Intake → ReadResult → Intake
+abbrev pub after_read : Intake → Result ℕ ReadFailed → Intake
 after_read t got = record {
   from = t.from;
-  to = t.to + got.count;
-  received = t.received + got.count;
-  logged = got.logged;
-  outcome = outcome_of got;
+  to = t.to + count_of got;
+  received = t.received + count_of got;
+  logged = t.logged;
+  stopped = stop_of got;
 }
 
 -- got: the bytes that it brought
-abbrev pub Brought : List ℕ → Outcome → Type 0
-Brought got Running = 0 < length got
-Brought got Ended = got ≡ []
-Brought got Malformed = ⊥
-Brought got Unread = got ≡ []
+abbrev pub Brought : List ℕ → Option Stop → Type 0
+Brought got None = 0 < length got
+Brought got (Some Ended) = got ≡ []
+Brought got (Some Malformed) = ⊥
+Brought got (Some Unread) = got ≡ []
 
 -- they stand behind the pending bytes, and are added to the log
 pub record ReadMet (t : Intake) (buf inlog : List ℕ) (r : Intake) (buf' inlog' : List ℕ) : Type 0 where
@@ -92,7 +93,7 @@ pub record ReadMet (t : Intake) (buf inlog : List ℕ) (r : Intake) (buf' inlog'
   pub bound : length got ≤ most_read
   pub arrived : pending_in buf' r ≡ pending_in buf t ++ got
   pub fits : Within r buf'
-  pub outcome : Brought got r.outcome
+  pub outcome : Brought got r.stopped
 
 -- ---- laws: a place past the end is the end
 pub between-placed : (s : List ℕ) (from to : ℕ)
@@ -131,7 +132,7 @@ module _ (t p : Intake) (buf inlog : List ℕ) (e : p ≡ placed_in (length buf)
   placed-fits = rw e (omega arith, omega arith, omega arith)
 
 -- ---- laws: nothing is read
-pub fill_none : (most : ℕ) (t p : Intake) (buf inlog : List ℕ) (o : Outcome) (r : Intake)
+pub fill_none : (most : ℕ) (t p : Intake) (buf inlog : List ℕ) (o : Option Stop) (r : Intake)
     → p ≡ placed_in (length buf) (length inlog) t
     → r ≡ stopped_at p o
     → OutcomeMet most (pending_in buf p) [] o
@@ -158,7 +159,7 @@ pub fill-whole : (most : ℕ) (t p : Intake) (buf inlog : List ℕ)
     → broken most (pending_in buf p) ≡ false
     → FillMet most t buf inlog p buf inlog
 fill-whole most t p buf inlog e b =
-    fill_none most t p buf inlog Running p e (e ∙ sym (ap (λ (x : Intake). stopped_at x Running) e))
+    fill_none most t p buf inlog None p e (e ∙ sym (ap (λ (x : Intake). stopped_at x None) e))
     (λ w. absurd (true≢false (sym w ∙ b)))
 
 -- ---- laws: the pending bytes stay, or have moved to the front: the same bytes
@@ -229,18 +230,18 @@ between-read s read tail from end count h l c =
 none_long : (l : List ℕ) → length l ≡ 0 → l ≡ []
 none_long l h = sym (take_all 0 l (omega (arith, h)))
 
-pub brought : (got : ReadResult) (l : List ℕ) → length l ≡ got.count → Brought l (outcome_of got)
-brought got l h = go (dec_le got.count 0) got.failed
+pub brought : (got : Result ℕ ReadFailed) (l : List ℕ) → length l ≡ count_of got → Brought l (stop_of got)
+brought (Ok n) l h = go (dec_le n 0)
   where
-    go : Dec (got.count ≤ 0) → (b : Bool) → Brought l (cond (eqb got.count 0) (cond b Unread Ended) Running)
-    go (yes z) true = rw (eq-eqb got.count 0 (omega arith)) (none_long l (omega arith))
-    go (yes z) false = rw (eq-eqb got.count 0 (omega arith)) (none_long l (omega arith))
-    go (no z) b = rw (ne_eqb got.count 0 (λ e. omega (arith, e))) (omega arith)
+    go : Dec (n ≤ 0) → Brought l (cond (eqb n 0) (Some Ended) None)
+    go (yes z) = rw (eq-eqb n 0 (omega arith)) (none_long l (omega (arith, h, z)))
+    go (no z) = rw (ne_eqb n 0 (λ e. omega (arith, e))) (omega (arith, h, z))
+brought (Err e) l h = none_long l h
 
 -- there was no room for one
 pub read_none : (t p : Intake) (buf inlog buf' : List ℕ) (r : Intake) → RoomMade t buf p buf'
     → t.logged ≤ length inlog
-    → r ≡ stopped_at p Unread
+    → r ≡ stopped_at p (Some Unread)
     → ReadMet t buf inlog r buf' inlog
 read_none t p buf inlog buf' r m l k =
     rw k
@@ -255,29 +256,30 @@ read_none t p buf inlog buf' r m l k =
     })
 
 -- it went into free bytes, which then are `new`
-pub read_some : (t p : Intake) (buf inlog buf' new tail : List ℕ) (got : ReadResult) (r : Intake) (inlog' : List ℕ)
+pub read_some : (t p : Intake) (buf inlog buf' new tail : List ℕ) (got : Result ℕ ReadFailed) (at : ℕ) (r : Intake)
+    (inlog' : List ℕ)
     → RoomMade t buf p buf'
-    → got.count ≤ length new
-    → got.count ≤ most_read
-    → Added inlog p.logged (take got.count new) inlog' got.logged
-    → r ≡ after_read p got
+    → (count_of got) ≤ length new
+    → (count_of got) ≤ most_read
+    → Added inlog p.logged (take (count_of got) new) inlog' at
+    → r ≡ after_read (record p { logged = at }) got
     → ReadMet t buf inlog r (take p.to buf' ++ (new ++ tail)) inlog'
-read_some t p buf inlog buf' new tail got r inlog' m l b a k =
-    let long : length (take got.count new) ≡ got.count = length-take-le got.count new l in
+read_some t p buf inlog buf' new tail got at r inlog' m l b a k =
+    let long : length (take (count_of got) new) ≡ (count_of got) = length-take-le (count_of got) new l in
     let front : length (take p.to buf') ≡ p.to = length-take-le p.to buf' m.within in
     rw k
     (record {
-      got = take got.count new;
-      came = subst (λ (i : ℕ). Added inlog i (take got.count new) inlog' got.logged) m.logged a;
+      got = take (count_of got) new;
+      came = subst (λ (i : ℕ). Added inlog i (take (count_of got) new) inlog' at) m.logged a;
       received = omega (arith, long, m.received);
       bound = omega (arith, long, b);
-      arrived = between-read buf' new tail p.from p.to got.count m.order m.within l
-          ∙ ap (λ (x : List ℕ). x ++ take got.count new) m.pending;
+      arrived = between-read buf' new tail p.from p.to (count_of got) m.order m.within l
+          ∙ ap (λ (x : List ℕ). x ++ take (count_of got) new) m.pending;
       fits = (
         omega (arith, m.order),
         omega (arith, front, l, length-append (take p.to buf') (new ++ tail), length-append new tail),
       );
-      outcome = brought got (take got.count new) long;
+      outcome = brought got (take (count_of got) new) long;
     })
 
 -- a read where no whole record is pending
@@ -296,14 +298,14 @@ fill-read most t p buf inlog r buf' inlog' e b l m = record {
   arrived = m.arrived ∙ ap (λ (x : List ℕ). x ++ m.got) (placed-pending t p buf inlog e);
   order = m.fits.0;
   within = m.fits.1;
-  outcome = stop r.outcome m.outcome;
+  outcome = stop r.stopped m.outcome;
 }
   where
     pending : broken most (pending_in buf t) ≡ true
     pending = subst (λ (x : List ℕ). broken most x ≡ true) (placed-pending t p buf inlog e) b
 
-    stop : (o : Outcome) → Brought m.got o → OutcomeMet most (pending_in buf t) m.got o
-    stop Running h = λ x. h
-    stop Ended h = (h, pending)
-    stop Malformed h = absurd h
-    stop Unread h = (h, pending)
+    stop : (o : Option Stop) → Brought m.got o → OutcomeMet most (pending_in buf t) m.got o
+    stop None h = λ x. h
+    stop (Some Ended) h = (h, pending)
+    stop (Some Malformed) h = absurd h
+    stop (Some Unread) h = (h, pending)

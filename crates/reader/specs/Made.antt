@@ -1,36 +1,32 @@
 -- Laws: a list of calls is made one call after the other, and the records of an input are taken one after the other.
 -- s: drive and medium. x: a reply space. cs: the calls so far.
 use Rattle.std.specs.Prelude.{◌≡◌, refl, true, false, List, [], ◌∷◌, ◌++◌, map, ℕ, suc, ◌+◌, ◌-◌, ◌≤◌, ◌<◌, length, take, drop, set}
-use Rattle.std.proofs.Common.{sym, ap, subst, ◌∙◌, append_assoc, append-nil, arith, length-append, drop-drop, take_at}
-use Rattle.std.proofs.lemmas.List.{length-map}
+use Rattle.std.proofs.Common.{sym, ap, subst, ◌∙◌, append_assoc, append-nil, arith, length-append, length-drop, drop-drop, take_at}
+use Rattle.std.proofs.lemmas.List.{length-map, map-set}
 use Rattle.lemmas.specs.ListLaws.{map-append}
 use Rattle.lemmas.specs.Fronts.{front_store, with_front}
 use Rattle.rules.specs.Frame.{fields}
 use Rattle.rules.specs.Gate.{Call, gate}
 use Rattle.rules.specs.Demands.{State, after, answer, step}
-use Rattle.rules.specs.Program.{
-  after_record,
-  AnsweredCall,
-  answered,
-  broken,
-  call_in,
-  calls_of,
-  clock_in,
-  frame_in,
-  frame_length,
-  left_of,
-  record_head,
-}
+use Rattle.rules.specs.Program.{after_record, AnsweredCall, answered, broken, call_in, calls_of, frame_in, frame_length, left_of, record_head}
 use Rattle.record.specs.Parsing.{calls_first, calls_none}
-use Rattle.drive.specs.declared.Answer.{Answer}
 use Rattle.drive.specs.declared.Drive.{Drive}
 use Rattle.drive.specs.Chain.{state_of}
+use Rattle.drive.specs.Lent.{answer_with}
 use Rattle.drive.specs.Met.{GateMet, call_of}
-use Rattle.reader.specs.declared.answers.Answers.{Answers}
-use Rattle.reader.specs.declared.whole.InputRecord.{InputRecord}
+use Rattle.reader.specs.declared.Answered.{Answered}
 use Rattle.reader.specs.Answered.{AnsweredMet, answered_met}
-use Rattle.reader.specs.Promises.{AnswerMet, CallsMade, partition_of, room_for, space_after, WholeRecordMet}
-use Rattle.reader.specs.WholeRecord.{frame-lent}
+use Rattle.reader.specs.Promises.{
+  answered_length,
+  answered_partition,
+  answered_row,
+  AnswerMet,
+  Answers,
+  CallsMade,
+  partition_of,
+  space_after,
+  WholeMet,
+}
 
 -- ---- two lists of calls, one after the other
 pub after_both : (s : State) (cs ds : List Call) → after s (cs ++ ds) ≡ after (after s cs) ds
@@ -67,10 +63,9 @@ front-answers f s calls n l l' e h =
     (length-map (answered s calls) f ∙ length-answered s calls ∙ sym e)
 
 -- ---- the calls made so far
-pub made_none : (d : Drive) (m x rows lengths partitions : List ℕ)
-    → CallsMade d [] m x rows lengths partitions d m x rows lengths partitions
+pub made_none : (d : Drive) (m x : List ℕ) (answers : List Answered) → CallsMade d [] m x answers d m x answers
 unfolding after answered space_after
-made_none d m x rows lengths partitions = record { state = refl; space = refl; row = refl; size = refl; place = refl }
+made_none d m x answers = record { state = refl; space = refl; row = refl; size = refl; place = refl }
 
 -- one more in a list of answers
 stored : {A : Type 0} (s : State) (f : AnsweredCall → A) (cs : List Call) (c : Call) (l l' : List A) (v d : A)
@@ -90,38 +85,46 @@ stored {A} s f cs c l l' v d e h ev =
     ∙ front_store so l (length cs) v d long h
     ∙ ap (λ (y : List A). with_front y l) more
 
+-- the same, of what a view of the answers shows
+shown : (s : State) (f : AnsweredCall → ℕ) (g : Answered → ℕ) (cs : List Call) (c : Call) (answers answers' : List Answered)
+    (a : Answered)
+    → map g answers' ≡ with_front (map f (answered s cs)) (map g answers)
+    → length cs < length answers
+    → g a ≡ f (record { frame = c.frame; row = (answer (after s cs) c).row; length = (answer (after s cs) c).length })
+    → map g (set answers' (length cs) a) ≡ with_front (map f (answered s (cs ++ (c ∷ [])))) (map g answers)
+shown s f g cs c answers answers' a e h ev =
+    map-set g answers' (length cs) a
+    ∙ stored s f cs c (map g answers) (map g answers') (g a) 0 e (omega (arith, h, length-map answers g)) ev
+
 -- one call more, of the record at the start of p
-pub made_more : (d : Drive) (cs : List Call) (m x rows lengths partitions : List ℕ) (d' : Drive)
-    (m' x' rows' lengths' partitions' p : List ℕ) (r : Answer) (m'' x'' : List ℕ) (place : ℕ)
-    → CallsMade d cs m x rows lengths partitions d' m' x' rows' lengths' partitions'
+pub made_more : (d : Drive) (cs : List Call) (m x : List ℕ) (answers : List Answered) (d' : Drive) (m' x' : List ℕ)
+    (answers' : List Answered) (p : List ℕ) (a : Answered) (d'' : Drive) (m'' x'' : List ℕ)
+    → CallsMade d cs m x answers d' m' x' answers'
     → length x' ≡ length x
-    → AnsweredMet d' m' p x' r m'' x''
-    → place ≡ (fields (frame_in p)).cred.partition
-    → length cs < length rows
-    → length cs < length lengths
-    → length cs < length partitions
-    → CallsMade d (cs ++ (call_in (length x) p ∷ [])) m x rows lengths partitions r.drive m'' x''
-    (set rows' (length cs) r.row) (set lengths' (length cs) r.length) (set partitions' (length cs) place)
+    → AnsweredMet d' m' p x' (answer_with (answered_row a) (answered_length a) d'') m'' x''
+    → answered_partition a ≡ (fields (frame_in p)).cred.partition
+    → length cs < length answers
+    → CallsMade d (cs ++ (call_in (length x) p ∷ [])) m x answers d'' m'' x'' (set answers' (length cs) a)
 unfolding after space_after
-made_more d cs m x rows lengths partitions d' m' x' rows' lengths' partitions' p r m'' x'' place h same a e lr ll lp =
+made_more d cs m x answers d' m' x' answers' p a d'' m'' x'' h same g e room =
     let s : State = state_of d m in
     let c : Call = call_in (length x) p in
     let now : state_of d' m' ≡ after s cs = h.state in
     let size : call_in (length x') p ≡ c = ap (λ (n : ℕ). call_in n p) same in
     record {
-      state = a.state
+      state = g.state
           ∙ ap (λ (y : Call). step (state_of d' m') y) size
           ∙ ap (λ (y : State). step y c) now
           ∙ sym (after_both s cs (c ∷ []));
-      space = a.space
+      space = g.space
           ∙ ap (λ (y : State). (gate y.drive y.medium (record { frame = c.frame; clock = c.clock; space = x' })).space) now
           ∙ ap (λ (y : List ℕ). (gate (after s cs).drive (after s cs).medium (record { frame = c.frame; clock = c.clock; space = y })).space) h.space
           ∙ sym (space_both s x cs (c ∷ []));
-      row = stored s AnsweredCall.row cs c rows rows' r.row 0 h.row lr
-          (a.row ∙ ap (λ (y : Call). (answer (state_of d' m') y).row) size ∙ ap (λ (y : State). (answer y c).row) now);
-      size = stored s AnsweredCall.length cs c lengths lengths' r.length 0 h.size ll
-          (a.size ∙ ap (λ (y : Call). (answer (state_of d' m') y).length) size ∙ ap (λ (y : State). (answer y c).length) now);
-      place = stored s partition_of cs c partitions partitions' place 0 h.place lp e;
+      row = shown s AnsweredCall.row answered_row cs c answers answers' a h.row room
+          (g.row ∙ ap (λ (y : Call). (answer (state_of d' m') y).row) size ∙ ap (λ (y : State). (answer y c).row) now);
+      size = shown s AnsweredCall.length answered_length cs c answers answers' a h.size room
+          (g.size ∙ ap (λ (y : Call). (answer (state_of d' m') y).length) size ∙ ap (λ (y : State). (answer y c).length) now);
+      place = shown s partition_of answered_partition cs c answers answers' a h.place room e;
     }
 
 -- ---- the records taken so far: cs are the calls of the first `count` records, `taken` bytes
@@ -196,75 +199,65 @@ taken_stuck most space room input cs taken t b =
     record { those = t.those ∙ ap (λ (l : List Call). cs ++ l) n.0 ∙ append-nil cs; left = t.left ∙ n.1 }
 
 -- ---- both: `count` records of the input are answered
-pub record Answering (d : Drive) (most room : ℕ) (m input x rows lengths partitions : List ℕ) (d' : Drive)
-    (m' x' rows' lengths' partitions' : List ℕ) (taken count : ℕ) : Type 0 where
+pub record Answering (d : Drive) (most room : ℕ) (m input x : List ℕ) (answers : List Answered) (d' : Drive)
+    (m' x' : List ℕ) (answers' : List Answered) (taken count : ℕ) : Type 0 where
   pub calls : List Call
   pub number : length calls ≡ count
   pub records : Taken most (length x) room input calls taken
-  pub made : CallsMade d calls m x rows lengths partitions d' m' x' rows' lengths' partitions'
+  pub made : CallsMade d calls m x answers d' m' x' answers'
 
-pub answering_none : (d : Drive) (most room : ℕ) (m input x rows lengths partitions : List ℕ)
-    → Answering d most room m input x rows lengths partitions d m x rows lengths partitions 0 0
-answering_none d most room m input x rows lengths partitions = record {
+pub answering_none : (d : Drive) (most room : ℕ) (m input x : List ℕ) (answers : List Answered)
+    → Answering d most room m input x answers d m x answers 0 0
+answering_none d most room m input x answers = record {
   calls = [];
   number = refl;
   records = taken_none most (length x) room input;
-  made = made_none d m x rows lengths partitions;
+  made = made_none d m x answers;
 }
 
--- the gate's answer to one more, w, the whole record behind the bytes taken
-pub answering_more : (d : Drive) (most room : ℕ) (m input x rows lengths partitions : List ℕ) (d' : Drive)
-    (m' x' rows' lengths' partitions' : List ℕ) (taken count : ℕ) (w : InputRecord) (r : Answer) (m'' x'' : List ℕ)
-    (place : ℕ)
-    → Answering d most room m input x rows lengths partitions d' m' x' rows' lengths' partitions' taken count
+-- the gate's answer a to one more, the whole record behind the bytes taken
+pub answering_more : (d : Drive) (most room : ℕ) (m input x : List ℕ) (answers : List Answered) (d' : Drive)
+    (m' x' : List ℕ) (answers' : List Answered) (taken count clock : ℕ) (frame : List ℕ) (a : Answered) (d'' : Drive)
+    (m'' x'' : List ℕ)
+    → Answering d most room m input x answers d' m' x' answers' taken count
     → count < room
-    → room ≡ room_for rows lengths partitions
+    → room ≡ length answers
     → length x' ≡ length x
-    → WholeRecordMet most (drop taken input) w
-    → broken most (drop taken input) ≡ false
-    → taken + w.size ≤ length input
-    → GateMet d' m'
-    (call_of (take ((taken + w.size) - (taken + record_head)) (drop (taken + record_head) input)) w.clock x') r m'' x''
-    → place ≡ (fields (take ((taken + w.size) - (taken + record_head)) (drop (taken + record_head) input))).cred.partition
-    → Answering d most room m input x rows lengths partitions r.drive m'' x'' (set rows' count r.row)
-    (set lengths' count r.length) (set partitions' count place) (taken + w.size) (count + 1)
-answering_more d most room m input x rows lengths partitions d' m' x' rows' lengths' partitions' taken count w r m'' x'' place
-    h lt full same met b fits g e =
+    → WholeMet most (drop taken input) clock frame
+    → GateMet d' m' (call_of frame clock x') (answer_with (answered_row a) (answered_length a) d'') m'' x''
+    → answered_partition a ≡ (fields frame).cred.partition
+    → Answering d most room m input x answers d'' m'' x'' (set answers' count a) (taken + (record_head + length frame))
+    (count + 1)
+answering_more d most room m input x answers d' m' x' answers' taken count clock frame a d'' m'' x'' h lt full same w g e =
     let p : List ℕ = drop taken input in
-    let size : w.size ≡ record_head + frame_length p = met.counted ∙ (rw b) in
-    let clock : w.clock ≡ clock_in p = met.reading ∙ (rw b) in
-    let frame = frame-lent input taken w.size size in
-    let a = answered_met d' m' p x' r m'' x''
-    (subst (λ (k : ℕ). GateMet d' m' (call_of (frame_in p) k x') r m'' x'') clock
-    (subst (λ (f : List ℕ). GateMet d' m' (call_of f w.clock x') r m'' x'') frame g)) in
+    let r = answer_with (answered_row a) (answered_length a) d'' in
+    let met = answered_met d' m' p x' r m'' x''
+    (subst (λ (k : ℕ). GateMet d' m' (call_of (frame_in p) k x') r m'' x'') w.reading
+    (subst (λ (f : List ℕ). GateMet d' m' (call_of f clock x') r m'' x'') w.content g)) in
     let n : length h.calls ≡ count = h.number in
-    let made = made_more d h.calls m x rows lengths partitions d' m' x' rows' lengths' partitions' p r m'' x'' place h.made
-    same a (e ∙ ap (λ (f : List ℕ). (fields f).cred.partition) frame) (omega (arith, n, lt, full))
-    (omega (arith, n, lt, full)) (omega (arith, n, lt, full)) in
+    let fits : taken + (record_head + length frame) ≤ length input =
+    omega (arith, w.within, length-drop taken input, h.records.within) in
+    let made = made_more d h.calls m x answers d' m' x' answers' p a d'' m'' x'' h.made same met
+    (e ∙ ap (λ (f : List ℕ). (fields f).cred.partition) w.content) (omega (arith, n, lt, full)) in
     record {
       calls = h.calls ++ (call_in (length x) p ∷ []);
       number = length-append h.calls (call_in (length x) p ∷ []) ∙ ap (λ (k : ℕ). k + 1) n;
-      records = taken_more most (length x) room input h.calls taken w.size h.records (omega (arith, n, lt)) b size fits;
+      records = taken_more most (length x) room input h.calls taken (record_head + length frame) h.records
+          (omega (arith, n, lt)) w.whole (ap (λ (k : ℕ). record_head + k) w.counted) fits;
       made = subst
-          (λ (k : ℕ). CallsMade d (h.calls ++ (call_in (length x) p ∷ [])) m x rows lengths partitions r.drive m'' x''
-          (set rows' k r.row) (set lengths' k r.length) (set partitions' k place)) n made;
+          (λ (k : ℕ). CallsMade d (h.calls ++ (call_in (length x) p ∷ [])) m x answers d'' m'' x'' (set answers' k a)) n made;
     }
 
 -- no more can be: all is answered
-pub answering_all : (d : Drive) (most room : ℕ) (m input x rows lengths partitions : List ℕ) (r : Answers)
-    (m' x' rows' lengths' partitions' : List ℕ)
-    → room ≡ room_for rows lengths partitions
-    → (a : Answering d most room m input x rows lengths partitions r.drive m' x' rows' lengths' partitions' r.taken
-    r.count)
-    → AllTaken most (length x) room input a.calls r.taken
-    → AnswerMet d most m input x rows lengths partitions r m' x' rows' lengths' partitions'
-answering_all d most room m input x rows lengths partitions r m' x' rows' lengths' partitions' e a t =
-    let those : a.calls ≡ calls_of most (length x) (room_for rows lengths partitions) input =
-    sym t.those ∙ ap (λ (n : ℕ). calls_of most (length x) n input) e in
+pub answering_all : (d : Drive) (most : ℕ) (m input x : List ℕ) (answers : List Answered) (r : Answers) (m' x' : List ℕ)
+    (answers' : List Answered)
+    → (a : Answering d most (length answers) m input x answers r.drive m' x' answers' r.taken r.count)
+    → AllTaken most (length x) (length answers) input a.calls r.taken
+    → AnswerMet d most m input x answers r m' x' answers'
+answering_all d most m input x answers r m' x' answers' a t =
     record {
-      made = subst (λ (cs : List Call). CallsMade d cs m x rows lengths partitions r.drive m' x' rows' lengths' partitions')
-          those a.made;
-      count = sym a.number ∙ ap length those;
-      left = sym t.left ∙ ap (λ (n : ℕ). left_of most n input) e;
+      made = subst (λ (cs : List Call). CallsMade d cs m x answers r.drive m' x' answers') (sym t.those) a.made;
+      count = sym a.number ∙ ap length (sym t.those);
+      left = sym t.left;
       within = a.records.within;
     }

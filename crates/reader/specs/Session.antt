@@ -1,6 +1,6 @@
 -- A session: all rounds since the first. The bytes that came, the calls that they were, and the drive after them, however
 -- the reads cut the input. most: the longest frame. space: the reply space's size. s₀: drive and medium at the start.
-use Rattle.std.specs.Prelude.{◌≡◌, refl, ◌⊎◌, true, false, ℕ, suc, ◌+◌, ◌-◌, ◌^◌, ◌≤◌, ◌<◌, length, drop}
+use Rattle.std.specs.Prelude.{◌≡◌, refl, ◌⊎◌, true, false, Option, None, Some, ℕ, suc, ◌+◌, ◌-◌, ◌^◌, ◌≤◌, ◌<◌, length, drop}
 use Rattle.std.proofs.Common.{sym, ap, subst, ◌∙◌, inl, inr, arith, length-append, length-drop, drop-drop}
 use mathlib.Core.List.{List, [], ◌∷◌, ◌++◌, append_assoc, append-nil}
 use Rattle.std.proofs.lemmas.List.{drop-append-le}
@@ -23,18 +23,18 @@ use Rattle.record.specs.Parsing.{
 use Rattle.drive.specs.declared.Drive.{Drive}
 use Rattle.drive.specs.Chain.{state_of}
 use Rattle.logged.specs.Log.{Logged, logged_more, logged_none}
-use Rattle.reader.specs.declared.Batch.{Batch}
+use Rattle.reader.specs.declared.Answered.{Answered}
 use Rattle.reader.specs.declared.Intake.{Intake}
-use Rattle.reader.specs.declared.Outcome.{Outcome}
-use Rattle.reader.specs.declared.Outcome.TheVariants.{Running, Ended, Malformed, Unread}
+use Rattle.reader.specs.declared.Stop.{Stop}
+use Rattle.reader.specs.declared.Stop.TheVariants.{Ended, Malformed, Unread}
 use Rattle.reader.specs.Promises.{
+  Batch,
   goes_on,
   input_limit,
   most_read,
   NextMet,
   nothing_read,
   pending_in,
-  room_for,
   room_in,
   OutcomeMet,
 }
@@ -59,15 +59,15 @@ pub record Session (most space : ℕ) (s₀ : State) (t : Intake) (d : Drive) (m
   pub fewer : length calls + length (pending_in buf t) ≤ length input
 
 -- ---- the whole input, where the session knows it: the calls made are all of it, and `pending` is left
-abbrev pub WholeInput : ℕ → ℕ → Outcome → List ℕ → List Call → List ℕ → Type 0
-WholeInput most space Running input calls pending = Unit {0}
-WholeInput most space Ended input calls pending = (calls_in most space input ≡ calls) × (left_in most input ≡ pending)
+abbrev pub WholeInput : ℕ → ℕ → Option Stop → List ℕ → List Call → List ℕ → Type 0
+WholeInput most space None input calls pending = Unit {0}
+WholeInput most space (Some Ended) input calls pending = (calls_in most space input ≡ calls) × (left_in most input ≡ pending)
 -- it goes on with what is no record: whatever bytes q were never read
-WholeInput most space Malformed input calls pending =
+WholeInput most space (Some Malformed) input calls pending =
     (0 < length pending)
     × ((q : List ℕ) → (calls_in most space (input ++ q) ≡ calls) × (left_in most (input ++ q) ≡ pending ++ q))
 -- it could not be read on
-WholeInput most space Unread input calls pending = Unit {0}
+WholeInput most space (Some Unread) input calls pending = Unit {0}
 
 -- ---- the start
 pub none_after : (s : State) → s ≡ after s []
@@ -91,14 +91,14 @@ session_none most space s₀ d m buf inlog e = record {
   fewer = omega arith;
 }
 
-module _ (most : ℕ) (s₀ : State) (d : Drive) (t : Intake) (m buf x rows lengths partitions inlog : List ℕ) (r : Batch)
-    (m' buf' x' rows' lengths' partitions' inlog' : List ℕ)
-    (g : NextMet d t most m buf x rows lengths partitions inlog r m' buf' x' rows' lengths' partitions' inlog') where
+module _ (most : ℕ) (s₀ : State) (d : Drive) (t : Intake) (m buf x : List ℕ) (answers : List Answered) (inlog : List ℕ) (r : Batch)
+    (m' buf' x' : List ℕ) (answers' : List Answered) (inlog' : List ℕ)
+    (g : NextMet d t most m buf x answers inlog r m' buf' x' answers' inlog') where
   abbrev arrived : List ℕ
   arrived = pending_in buf t ++ g.got
 
   abbrev room : ℕ
-  room = room_in r.intake.outcome rows lengths partitions
+  room = room_in r.intake.stopped answers
 
   -- ---- one round more
   module _ (space : ℕ) (h : Session most space s₀ t d m buf inlog) (size : length x ≡ space)
@@ -205,17 +205,17 @@ module _ (most : ℕ) (s₀ : State) (d : Drive) (t : Intake) (m buf x rows leng
         )
 
     -- where the input stops, the pending bytes stay
-    stays : goes_on r.intake.outcome ≡ false → g.got ≡ [] → pending_in buf' r.intake ≡ pending_in buf t
+    stays : goes_on r.intake.stopped ≡ false → g.got ≡ [] → pending_in buf' r.intake ≡ pending_in buf t
     unfolding left_of
     stays o e = g.left ∙ (rw o (ap (λ (p : List ℕ). pending_in buf t ++ p) e ∙ append-nil (pending_in buf t)))
 
     -- what it knows of the whole input
-    stopped : (o : Outcome) → r.intake.outcome ≡ o
+    stopped : (o : Option Stop) → r.intake.stopped ≡ o
         → WholeInput most space o session_next.input session_next.calls (pending_in buf' r.intake)
-    stopped Running e = tt
-    stopped Ended e =
-        let st : OutcomeMet most (pending_in buf t) g.got Ended =
-        subst (λ (o : Outcome). OutcomeMet most (pending_in buf t) g.got o) e g.outcome in
+    stopped None e = tt
+    stopped (Some Ended) e =
+        let st : OutcomeMet most (pending_in buf t) g.got (Some Ended) =
+        subst (λ (o : Option Stop). OutcomeMet most (pending_in buf t) g.got o) e g.outcome in
         let p : List ℕ = pending_in buf' r.intake in
         let same-p : p ≡ pending_in buf t = stays (ap goes_on e) st.0 in
         let none = calls-ended most space p (ap (broken most) same-p ∙ st.1) in (
@@ -229,9 +229,9 @@ module _ (most : ℕ) (s₀ : State) (d : Drive) (t : Intake) (m buf x rows leng
               ∙ ap (left_in most) (append-nil p)
               ∙ none.1,
         )
-    stopped Malformed e =
-        let st : OutcomeMet most (pending_in buf t) g.got Malformed =
-        subst (λ (o : Outcome). OutcomeMet most (pending_in buf t) g.got o) e g.outcome in
+    stopped (Some Malformed) e =
+        let st : OutcomeMet most (pending_in buf t) g.got (Some Malformed) =
+        subst (λ (o : Option Stop). OutcomeMet most (pending_in buf t) g.got o) e g.outcome in
         let p : List ℕ = pending_in buf' r.intake in
         let bad : malformed most p ≡ true = ap (malformed most) (stays (ap goes_on e) st.0) ∙ st.1 in (
           malformed_some most p bad,
@@ -243,37 +243,35 @@ module _ (most : ℕ) (s₀ : State) (d : Drive) (t : Intake) (m buf x rows leng
                 session_next.left q ∙ none.1,
               ),
         )
-    stopped Unread e = tt
+    stopped (Some Unread) e = tt
 
-    pub session-whole : WholeInput most space r.intake.outcome session_next.input session_next.calls
+    pub session-whole : WholeInput most space r.intake.stopped session_next.input session_next.calls
         (pending_in buf' r.intake)
-    session-whole = stopped r.intake.outcome refl
+    session-whole = stopped r.intake.stopped refl
 
   -- ---- there are no more calls in it than there is room for
-  pub next_fits : r.count ≤ room_for rows lengths partitions
+  pub next_fits : r.count ≤ length answers
   next_fits =
-      omega (arith, g.count, ap length g.those, calls_most most (length x) room arrived, within-room r.intake.outcome)
+      omega (arith, g.count, ap length g.those, calls_most most (length x) room arrived, within-room r.intake.stopped)
     where
-      within-room : (o : Outcome) → room_in o rows lengths partitions ≤ room_for rows lengths partitions
-      within-room Running = omega arith
-      within-room Ended = omega arith
-      within-room Malformed = omega arith
-      within-room Unread = omega arith
+      within-room : (o : Option Stop) → room_in o answers ≤ length answers
+      within-room None = omega arith
+      within-room (Some stop) = omega arith
 
   -- ---- while the input goes on, bytes have come or a call was made, where there is room for an answer
-  pub next_grows : r.intake.outcome ≡ Running → 0 < room_for rows lengths partitions
+  pub next_grows : r.intake.stopped ≡ None → 0 < length answers
       → t.received < r.intake.received + r.count
   next_grows e some = go (bool_cases (broken most (pending_in buf t)))
     where
       go : (broken most (pending_in buf t) ≡ true) ⊎ (broken most (pending_in buf t) ≡ false)
           → t.received < r.intake.received + r.count
       go (inl b) =
-          let st : OutcomeMet most (pending_in buf t) g.got Running =
-          subst (λ (o : Outcome). OutcomeMet most (pending_in buf t) g.got o) e g.outcome in
+          let st : OutcomeMet most (pending_in buf t) g.got None =
+          subst (λ (o : Option Stop). OutcomeMet most (pending_in buf t) g.got o) e g.outcome in
           omega (arith, g.received, st b)
       go (inr b) =
-          let n : ℕ = room_for rows lengths partitions - 1 in
-          let full : room ≡ suc n = ap (λ (o : Outcome). room_in o rows lengths partitions) e ∙ omega (arith, some) in
+          let n : ℕ = length answers - 1 in
+          let full : room ≡ suc n = ap (λ (o : Option Stop). room_in o answers) e ∙ omega (arith, some) in
           let f = calls_first most (length x) n arrived (whole-stays most (pending_in buf t) g.got b) in
           let one : r.count ≡ suc (length (calls_of most (length x) n (after_record arrived))) =
           g.count

@@ -3,70 +3,46 @@ ghost use Rattle.reader.specs.Promises.{AnswerMet};
 ghost use Rattle.rules.specs.Frame.{fields};
 ghost use Rattle.std.specs.Prelude.{◌≡◌};
 
-use super::whole;
-use drive::{Answer, Drive};
-use lemmas::smaller;
+use super::Answered;
+use super::whole::whole_record;
+use drive::Drive;
 
-// The drive after the calls, how many bytes of the input they took, how many there were.
-#[derive(Drop)]
-pub struct Answers {
-    pub drive: Drive,
-    pub taken: usize,
-    pub count: usize,
+// How many bytes of the input the calls took, how many calls there were.
+#[derive(Clone, Copy)]
+pub struct Taken {
+    pub bytes: usize,
+    pub calls: usize,
 }
 
 // The partition that a frame's credential names: its byte 2, 0 where the frame is shorter.
 fn partition_of(frame: &[u8]) -> u8
     ensures { result ≡ (fields frame.now).cred.partition }
 {
-    if frame.len() < 3 {
-        return 0;
-    }
-    frame[2]
+    frame.get(2).copied().unwrap_or(0)
 }
 
-// Puts the whole records at the start of input to the gate, in order, as many as rows, lengths and partitions have room for.
-// The loop keeps the last answer, and not its drive: a drive taken out of it would be copied once more.
+// Puts the whole records at the start of input to the gate, in order, as many as there is room for answers.
 pub fn answer(
-    drive: Drive,
+    drive: &mut Drive,
     most: u64,
     medium: &mut [u8],
     input: &[u8],
     reply: &mut [u8],
-    rows: &mut [u32],
-    lengths: &mut [usize],
-    partitions: &mut [u8],
-) -> Answers
-    ensures { AnswerMet drive most medium.old input.now reply.old rows.old lengths.old partitions.old result medium.new reply.new rows.new lengths.new partitions.new }
+    answers: &mut [Answered],
+) -> Taken
+    ensures { AnswerMet drive.old most medium.old input.now reply.old answers.old (record { drive = drive.new; taken = result.bytes; count = result.calls }) medium.new reply.new answers.new }
 {
-    let room = smaller(rows.len(), smaller(lengths.len(), partitions.len()));
-    let mut a = Answer {
-        row: 0,
-        length: 0,
-        drive,
-    };
-    let mut taken: usize = 0;
-    let mut count: usize = 0;
-    while count < room {
-        let w = whole::whole_record(&input[taken..], most);
-        let size = w.size;
-        if size == 0 {
+    let mut taken = Taken { bytes: 0, calls: 0 };
+    for answered in answers.iter_mut() {
+        let Some(record) = whole_record(&input[taken.bytes..], most) else {
             break;
-        }
-        let start = taken + record::HEAD_SIZE;
-        let end = taken + size;
-        let d = a.drive;
-        a = drive::gate(d, medium, &input[start..end], w.clock, reply);
-        rows[count] = a.row;
-        lengths[count] = a.length;
-        partitions[count] = partition_of(&input[start..end]);
-        taken = end;
-        count += 1;
+        };
+        *answered = Answered {
+            answer: drive::gate(drive, medium, record.frame, record.clock, reply),
+            partition: partition_of(record.frame),
+        };
+        taken.bytes += record::HEAD_SIZE + record.frame.len();
+        taken.calls += 1;
     }
-    let d = a.drive;
-    Answers {
-        drive: d,
-        taken,
-        count,
-    }
+    taken
 }

@@ -7,10 +7,11 @@ mod answers;
 mod arrivals;
 mod whole;
 
-ghost use Rattle.std.specs.Prelude.{◌≡◌, replicate};
-ghost use Rattle.reader.specs.Promises.{input_size, NextMet, nothing_read};
+ghost use Rattle.std.specs.Prelude.{◌≡◌, ◌≤◌, length, replicate};
+ghost use Rattle.reader.specs.Promises.{answered_length, answered_row, input_size, NextMet, nothing_read};
 
 use drive::Drive;
+use rules::Refusal;
 use std::io::Stdin;
 
 // Document 01's longest frame of a program's input record.
@@ -19,33 +20,46 @@ pub const MOST_FRAME: u64 = 65536;
 // The input buffer of a program with such frames: the longest input record, and a whole read behind it.
 pub const INPUT_SIZE: usize = 131086;
 
-// Whether the input goes on; or why it stops: it has ended, what comes is no input record whatever follows, it can't be
-// read on.
-#[derive(Clone, Copy)]
-pub enum Outcome {
-    Running,
+// Why the input stops: it has ended, what comes is no input record whatever follows, it can't be read on.
+#[derive(Clone, Copy, Debug, PartialEq, Eq)]
+pub enum Stop {
     Ended,
     Malformed,
     Unread,
 }
 
 // The bytes of the input buffer from `from` up to `to` have been read and not answered; so many bytes were read in all, so
-// many of them the log has.
+// many of them the log has; and why the input stops, where it does.
 #[derive(Clone, Copy)]
 pub struct Intake {
     pub from: usize,
     pub to: usize,
     pub received: u64,
     pub logged: usize,
-    pub outcome: Outcome,
+    pub stopped: Option<Stop>,
 }
 
-// The drive after some calls, the input behind them, and how many there were.
-#[derive(Drop)]
-pub struct Batch {
-    pub drive: Drive,
-    pub intake: Intake,
-    pub count: usize,
+// The gate's answer to a call, its reply's length or the refusal; and the partition that its credential names.
+#[derive(Clone, Copy)]
+pub struct Answered {
+    pub answer: Result<usize, Refusal>,
+    pub partition: u8,
+}
+
+impl Answered {
+    // Its row, 0 of a grant.
+    pub fn row(self) -> u32
+        ensures { result ≡ answered_row self }
+    {
+        rules::row_of(self.answer)
+    }
+
+    // Its reply's length, 0 where it is refused.
+    pub fn length(self) -> usize
+        ensures { result ≡ answered_length self }
+    {
+        self.answer.unwrap_or(0)
+    }
 }
 
 // An input buffer of zeros.
@@ -64,60 +78,35 @@ pub fn start() -> Intake
         to: 0,
         received: 0,
         logged: 0,
-        outcome: Outcome::Running,
+        stopped: None,
     }
 }
 
-// Puts the whole records that have been read to the gate, in order, as many as the three lists of answers have room for:
-// of each call its row, its reply's length and its credential's partition. It reads, once, only where no record is whole:
-// so all that has arrived is answered before it waits. A frame of more than `most` bytes makes no record.
+// Puts the whole records that have been read to the gate, in order, as many as there is room for answers, and returns how
+// many there were. It reads, once, only where no record is whole: so all that has arrived is answered before it waits. A
+// frame of more than `most` bytes makes no record.
+// Kept, the new form is no plainer: of a struct that holds the lent buffers each contract would have to say, buffer by
+// buffer, that the struct still holds the same one (`b.new.input.ghost_name ≡ b.old.input.ghost_name`).
 pub fn next(
     stdin: Stdin,
-    drive: Drive,
-    intake: Intake,
+    drive: &mut Drive,
+    intake: &mut Intake,
     most: u64,
     medium: &mut [u8],
     input: &mut [u8],
     reply: &mut [u8],
-    rows: &mut [u32],
-    lengths: &mut [usize],
-    partitions: &mut [u8],
+    answers: &mut [Answered],
     inlog: &mut [u8],
-) -> Batch
-    ensures { NextMet drive intake most medium.old input.old reply.old rows.old lengths.old partitions.old inlog.old result medium.new input.new reply.new rows.new lengths.new partitions.new inlog.new }
+) -> usize
+    ensures met { NextMet drive.old intake.old most medium.old input.old reply.old answers.old inlog.old (record { drive = drive.new; intake = intake.new; count = result }) medium.new input.new reply.new answers.new inlog.new }
+    ensures room { result ≤ length answers.new }
 {
-    let t = arrivals::fill(stdin, intake, most, input, inlog);
-    let o = t.outcome;
-    let Outcome::Running = o else {
-        return Batch {
-            drive,
-            intake: t,
-            count: 0,
-        };
-    };
-    let from = t.from;
-    let to = t.to;
-    let a = answers::answer(
-        drive,
-        most,
-        medium,
-        &input[from..to],
-        reply,
-        rows,
-        lengths,
-        partitions,
-    );
-    let d = a.drive;
-    let left = Intake {
-        from: from + a.taken,
-        to,
-        received: t.received,
-        logged: t.logged,
-        outcome: Outcome::Running,
-    };
-    Batch {
-        drive: d,
-        intake: left,
-        count: a.count,
+    intake.fill(stdin, most, input, inlog);
+    if intake.stopped.is_some() {
+        return 0;
     }
+    let pending = &input[intake.from..intake.to];
+    let taken = answers::answer(drive, most, medium, pending, reply, answers);
+    intake.from += taken.bytes;
+    taken.calls
 }

@@ -3,24 +3,20 @@ ghost use Rattle.reader.specs.Promises.{WholeRecordMet};
 
 use record::Arrived;
 
-// A whole input record: its clock and its size in bytes, head and frame; size 0 where there is none.
+// A whole input record: its clock and its frame.
 #[derive(Clone, Copy)]
-pub struct InputRecord {
+pub struct InputRecord<'a> {
     pub clock: u64,
-    pub size: usize,
+    pub frame: &'a [u8],
 }
 
-// The input record at the start of input.
-pub fn whole_record(input: &[u8], most: u64) -> InputRecord
+// The input record at the start of input, where it is whole.
+pub fn whole_record(input: &[u8], most: u64) -> Option<InputRecord<'_>>
     ensures { WholeRecordMet most input.now result }
 {
-    let a = record::arrival(input, most);
-    match a {
-        Arrived::Whole { clock, size } => InputRecord {
-            clock,
-            size: record::HEAD_SIZE + size,
-        },
-        Arrived::Malformed => InputRecord { clock: 0, size: 0 },
-        Arrived::Short => InputRecord { clock: 0, size: 0 },
-    }
+    let Arrived::Whole { clock, size } = record::arrival(input, most) else {
+        return None;
+    };
+    let frame = &input[record::HEAD_SIZE..record::HEAD_SIZE + size];
+    Some(InputRecord { clock, frame })
 }

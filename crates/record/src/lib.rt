@@ -15,7 +15,7 @@ const LENGTH_START: usize = CLOCK_START + 8;
 pub const HEAD_SIZE: usize = LENGTH_START + 4;
 
 // What is known of an input record from those of its bytes that have arrived.
-#[derive(Clone, Copy)]
+#[derive(Clone, Copy, Debug, PartialEq, Eq)]
 pub enum Arrived {
     // All of it: the frame is the size bytes after the head. Bytes of later input records may follow.
     Whole { clock: u64, size: usize },

@@ -1,14 +1,15 @@
-// Rows 3 to 6 of document 01 over a credential and a request, as changes 5 and 6 of document 02 read them, each a test with no
-// branch; and what the client end refuses of the two.
+// Rows 3 to 6 of document 01 over a credential and a request, as changes 5 and 6 of document 02 read them; and what the
+// client end refuses of the two.
 #![tactic(auto)]
 
 ghost use Rattle.std.specs.Prelude.{◌≡◌};
 ghost use Rattle.rules.specs.Rows.{row3, row4, row6, outside_credential, outside_request, data_length, wrong_data};
 ghost use Rattle.rules.specs.Client.{bad_records};
+ghost use Rattle.rules.specs.Refusals.{answer_row};
 ghost use Rattle.record_rows.specs.Refusals.{bad_credential, other_length, wrong_length, record_row};
 
 use fields::{CREDENTIAL_MAGIC, GROUP_MAGIC, REQUEST_MAGIC};
-use lemmas::pick;
+use rules::{Refusal, refuse};
 
 // The most data that a frame carries, and the data that operations 7 and 8 carry.
 const MOST_DATA: u32 = 1048576;
@@ -55,9 +56,12 @@ fn outside(c: rules::Credential, r: rules::Request) -> bool
 fn data_length(r: rules::Request) -> u32
     ensures { result ≡ data_length r }
 {
-    let rest = pick(r.operation == 8, TABLE_SIZE, 0);
-    let rest = pick(r.operation == 7, SEED_SIZE, rest);
-    pick(r.operation == 2, r.B, rest)
+    match r.operation {
+        2 => r.B,
+        7 => SEED_SIZE,
+        8 => TABLE_SIZE,
+        _ => 0,
+    }
 }
 
 // Row 5: of the request alone; of a frame of len bytes whose request starts at start; of both.
@@ -70,10 +74,7 @@ fn wrong_data(r: rules::Request) -> bool
 fn other_length(r: rules::Request, start: usize, len: usize) -> bool
     ensures { result ≡ other_length r start len }
 {
-    if start > len {
-        return true;
-    }
-    len - start != fields::rest_length(r)
+    len.checked_sub(start) != Some(fields::rest_length(r))
 }
 
 fn wrong_length(r: rules::Request, start: usize, len: usize) -> bool
@@ -121,14 +122,20 @@ pub fn bad_credential(c: rules::Credential) -> bool
     (c.magic != CREDENTIAL_MAGIC) | outside_credential(c)
 }
 
-// The lowest of rows 3 to 6 that refuses credential and request in a frame of len bytes whose request starts at start, or 0.
-pub fn record_row(c: rules::Credential, r: rules::Request, start: usize, len: usize) -> u32
-    ensures { result ≡ record_row c r start len }
+// Refuses a credential and a request, in a frame of len bytes whose request starts at start, by the lowest of rows 3 to 6 that
+// applies.
+pub fn record_row(
+    c: rules::Credential,
+    r: rules::Request,
+    start: usize,
+    len: usize,
+) -> Result<(), Refusal>
+    ensures { answer_row result ≡ record_row c r start len }
 {
-    let row = pick(misfit(c, r), 6, 0);
-    let row = pick(wrong_length(r, start, len), 5, row);
-    let row = pick(outside(c, r), 4, row);
-    pick(bad_magic(c, r), 3, row)
+    refuse(bad_magic(c, r), Refusal::WrongMark)?;
+    refuse(outside(c, r), Refusal::WrongField)?;
+    refuse(wrong_length(r, start, len), Refusal::WrongLength)?;
+    refuse(misfit(c, r), Refusal::Misfit)
 }
 
 // Whether a credential and a request, each in bytes of its own, are refused: by a length that is not its mark's, or by one of

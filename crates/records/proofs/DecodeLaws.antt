@@ -10,8 +10,8 @@ use lib.ListN.{length}
 use borrow.Author.Tests.{eqb-true, le-leb, not-false}
 use Rattle.lemmas.specs.Tests.{◌is◌, ◌isnt◌, or_intro_r, or_l, or_r}
 use Rattle.rules.specs.declared.Request.{Request}
-use Rattle.rules.specs.Frame.{group_magic, group_request_size, request_length, request_size}
-use Rattle.records.specs.Coding.{request_unmarked}
+use Rattle.rules.specs.Frame.{request_length}
+use Rattle.records.specs.Coding.{request_unmarked, size_by}
 
 -- there: the record at the start of s; none: what is read where it is not all there, which the tests refuse; wrong: the tests on
 -- its fields; no, of: the answers
@@ -46,7 +46,15 @@ module _ {A D : Type 0} (s : List ℕ) (size long : ℕ) (there none : A) (wrong
       ∙ same_answer (leb (0 + long) (length s)) refl
 
 -- a request with a mark has the length that the mark tells
-pub request_long : (magic : ℕ) (r : Request) → request_unmarked magic r ≡ false
-    → request_length r ≤ cond (magic is group_magic) group_request_size request_size
+pub request_long : (magic : ℕ) (r : Request) → request_unmarked magic r ≡ false → request_length r ≤ size_by magic
 unfolding request_length
 request_long magic r e = rw (eqb-true r.magic magic (not-false (r.magic is magic) e)) (omega arith)
+
+-- so a request's own length may be tested in the place of its mark's
+pub by_mark : (n magic : ℕ) (r : Request) → (n isnt request_length r || request_unmarked magic r) ≡ (n isnt size_by magic || request_unmarked magic r)
+unfolding request_length
+by_mark n magic r = go (request_unmarked magic r) refl
+  where
+    go : (b : Bool) → request_unmarked magic r ≡ b → (n isnt request_length r || b) ≡ (n isnt size_by magic || b)
+    go true e = or_intro_r (n isnt request_length r) true refl ∙ sym (or_intro_r (n isnt size_by magic) true refl)
+    go false e = ap (λ (m : ℕ). n isnt size_by m || false) (eqb-true r.magic magic (not-false (r.magic is magic) e))

@@ -79,6 +79,7 @@ use Rattle.records.specs.Coding.{
   request_from,
   request_unmarked,
   request_with,
+  size_by,
   version_decoded,
 }
 
@@ -170,9 +171,6 @@ credential_encodes s space bytes z y =
 
 -- ---- the request, in the same way: what holds of either form. magic: its mark, which tells its
 -- length; other bytes a decoder refuses
-abbrev size_by : ℕ → ℕ
-size_by magic = cond (magic is group_magic) group_request_size request_size
-
 abbrev refused : ℕ → List ℕ → Bool
 refused magic s = length s isnt size_by magic || request_unmarked magic (request_at s 0)
 

@@ -2,11 +2,13 @@
 -- change 6), as a C program has them: without what is the same in each, the marks and the credential's zero byte. And the results
 -- that are numbers.
 -- c: a credential's fields. r: a request's. s: the bytes lent.
-use Rattle.std.specs.Prelude.{◌||◌, Bool, cond, List, [], ℕ, length}
-use Rattle.lemmas.specs.Tests.{◌isnt◌, ◌under◌}
+use Rattle.std.specs.Prelude.{◌||◌, Bool, cond, List, [], ℕ, length, Result, Ok, Err}
+use Rattle.lemmas.specs.Tests.{◌is◌, ◌isnt◌, ◌under◌}
 use Rattle.lemmas.specs.BigEndian.{AllFit, number_at}
 use Rattle.rules.specs.declared.Credential.{Credential}
 use Rattle.rules.specs.declared.Request.{Request}
+use Rattle.rules.specs.declared.refusal.Refusal.{Refusal}
+use Rattle.rules.specs.declared.refusal.Refusal.TheVariants.{WrongRecord}
 use Rattle.rules.specs.Frame.{
   credential_at,
   credential_magic,
@@ -142,6 +144,14 @@ credential_decoded s =
 
 abbrev pub request_unmarked : ℕ → Request → Bool
 request_unmarked magic r = r.magic isnt magic
+
+-- the request of a mark, in as many bytes as the mark tells, or the refusal
+abbrev pub size_by : ℕ → ℕ
+size_by magic = cond (magic is group_magic) group_request_size request_size
+
+unfoldable pub request_told : ℕ → List ℕ → Result Request Refusal
+request_told magic s =
+    cond (length s isnt size_by magic || request_unmarked magic (request_at s 0)) (Err WrongRecord) (Ok (request_at s 0))
 
 unfoldable pub request_decoded : List ℕ → RequestDecoded
 request_decoded s =

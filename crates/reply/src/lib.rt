@@ -6,8 +6,6 @@ ghost use Rattle.lemmas.specs.Tests.{◌is◌};
 ghost use Rattle.rules.specs.Frame.{digest_size};
 ghost use Rattle.rules.specs.Operations.{result_length, head_size, reply_length, head};
 
-use lemmas::pick;
-
 // The lengths of a reply's head and of its digest.
 pub const HEAD_SIZE: usize = 8;
 
@@ -22,16 +20,20 @@ const VERSION_SIZE: u32 = 4;
 pub fn result_length(r: rules::Request) -> u32
     ensures { result ≡ result_length r }
 {
-    let n = pick((r.operation == 4) | (r.operation == 5), VERSION_SIZE, 0);
-    let n = pick(r.operation == 3, LOOK_SIZE, n);
-    pick(r.operation == 1, r.B, n)
+    match r.operation {
+        1 => r.B,
+        3 => LOOK_SIZE,
+        4 | 5 => VERSION_SIZE,
+        _ => 0,
+    }
 }
 
 // How long a reply with a result of n bytes is: head, result, and at level 2 a digest.
 pub fn length_with(r: rules::Request, n: u32) -> u64
     ensures { result ≡ head_size + n + cond (r.level is 2) digest_size 0 }
 {
-    HEAD_SIZE as u64 + n as u64 + pick(r.level == 2, SEAL_SIZE, 0) as u64
+    let seal = if r.level == 2 { SEAL_SIZE } else { 0 };
+    HEAD_SIZE as u64 + u64::from(n) + u64::from(seal)
 }
 
 // How long the whole reply is.
@@ -45,14 +47,6 @@ pub fn reply_length(r: rules::Request) -> u64
 pub fn reply_head(r: rules::Request, n: u32) -> [u8; HEAD_SIZE]
     ensures { result ≡ head r n }
 {
-    [
-        0x4c,
-        0x41,
-        r.operation,
-        r.level,
-        (n / 16777216 % 256) as u8,
-        (n / 65536 % 256) as u8,
-        (n / 256 % 256) as u8,
-        (n % 256) as u8,
-    ]
+    let [n3, n2, n1, n0] = n.to_be_bytes();
+    [0x4c, 0x41, r.operation, r.level, n3, n2, n1, n0]
 }

@@ -3,14 +3,17 @@
 // the input.
 #![tactic(auto)]
 
-ghost use Rattle.std.specs.Prelude.{◌≡◌, ◌≤◌, length, ◌++◌};
+ghost use Rattle.std.specs.Prelude.{◌≡◌, map, ◌≤◌, length, ◌++◌};
 ghost use Rattle.rules.specs.Program.{formatted};
 ghost use Rattle.rules.specs.Report.{counter_count, count_lines, counts_from, total};
 ghost use Rattle.drive.specs.Chain.{state_of};
 ghost use Rattle.logged.specs.Log.{Added};
-ghost use Rattle.report.specs.Promises.{BuffersFit, counted_all, no_counts, out_size, Progress, RoundMet, RunMet, ServeMet};
+ghost use Rattle.reader.specs.Promises.{answered_row, answered_partition};
+ghost use Rattle.report.specs.Promises.{at_start, counted_all, loop_state, no_counts, out_size, printed, Progress, RoundMet, RunMet, ServeMet};
 
-use reader::{Intake, Outcome};
+use drive::Drive;
+use lines::Last;
+use reader::{Answered, Intake};
 use std::io::{Stdin, Stdout};
 
 // The medium, the reply space and the buffer of the output have so many bytes.
@@ -19,107 +22,78 @@ const BUFFER_SIZE: usize = 65536;
 // So many answers are taken at a time.
 const ANSWERS: usize = 1024;
 
-// The state between two rounds: the drive, the input, and how many calls there have been.
+// The program's memory, but for the drive and the logs.
 #[derive(Drop)]
-struct LoopState {
-    drive: drive::Drive,
-    intake: Intake,
-    calls: u64,
+struct Buffers {
+    medium: [u8; BUFFER_SIZE],
+    input: [u8; reader::INPUT_SIZE],
+    reply: [u8; BUFFER_SIZE],
+    answers: [Answered; ANSWERS],
+    counters: [u64; tally::COUNTERS],
+    out: [u8; BUFFER_SIZE],
 }
 
-// The end: the drive after all calls, the input, how many calls there were, and how many bytes the log of the output has.
-#[derive(Drop)]
-struct Printed {
-    drive: drive::Drive,
+// The state between two rounds: the input, and how many calls there have been.
+#[derive(Clone, Copy)]
+struct Counted {
     intake: Intake,
     calls: u64,
-    logged: usize,
 }
 
 // Counts calls by their rows and partitions.
-fn count_all(counters: &mut [u64], rows: &[u32], partitions: &[u8])
-    requires { length rows.now ≡ length partitions.now }
-    ensures { counters.new ≡ counted_all counters.old rows.now partitions.now }
+fn count_all(counters: &mut [u64], answers: &[Answered])
+    ensures { counters.new ≡ counted_all counters.old (map answered_row answers.now) (map answered_partition answers.now) }
 {
-    let mut i: usize = 0;
-    while i < rows.len() {
-        tally::count(counters, partitions[i], rows[i]);
-        i += 1;
+    for answered in answers {
+        tally::count(counters, answered.partition, answered.row());
     }
 }
 
+// Kept, the new form is no plainer: here and below handles, drive, counts, buffers and logs one by one, since the clauses name each.
 // A round of the reader, and its calls counted.
 fn round(
     stdin: Stdin,
-    t: LoopState,
-    medium: &mut [u8],
-    input: &mut [u8],
-    reply: &mut [u8],
-    rows: &mut [u32],
-    lengths: &mut [usize],
-    partitions: &mut [u8],
-    counters: &mut [u64],
+    drive: &mut Drive,
+    counted: &mut Counted,
+    buffers: &mut Buffers,
     inlog: &mut [u8],
-) -> LoopState
-    requires { Progress t medium.old input.old counters.old inlog.old × BuffersFit reply.old rows.old lengths.old partitions.old }
-    ensures { RoundMet t result medium.new input.new counters.new inlog.new }
+)
+    requires { Progress (loop_state drive.old counted.old) buffers.old.medium buffers.old.input buffers.old.counters inlog.old }
+    ensures { RoundMet (loop_state drive.old counted.old) (loop_state drive.new counted.new) buffers.new.medium buffers.new.input buffers.new.counters inlog.new }
 {
-    let d = t.drive;
-    let i = t.intake;
-    let b = reader::next(
+    let count = reader::next(
         stdin,
-        d,
-        i,
+        drive,
+        &mut counted.intake,
         reader::MOST_FRAME,
-        medium,
-        input,
-        reply,
-        rows,
-        lengths,
-        partitions,
+        &mut buffers.medium,
+        &mut buffers.input,
+        &mut buffers.reply,
+        &mut buffers.answers,
         inlog,
     );
-    let count = b.count;
-    count_all(counters, &rows[..count], &partitions[..count]);
-    let e = b.drive;
-    let j = b.intake;
-    LoopState {
-        drive: e,
-        intake: j,
-        calls: t.calls + count as u64,
-    }
+    count_all(&mut buffers.counters, &buffers.answers[..count]);
+    counted.calls += count as u64;
 }
 
 // Rounds until the input stops.
+// Kept, the new form is no plainer: `gate` has such a loop too, but each over a state, buffers and a promise of its own, so
+// one function for both would take a trait with all three as its ghost members, and this body is three lines.
 fn serve(
     stdin: Stdin,
-    drive: drive::Drive,
-    medium: &mut [u8],
-    input: &mut [u8],
-    reply: &mut [u8],
-    rows: &mut [u32],
-    lengths: &mut [usize],
-    partitions: &mut [u8],
-    counters: &mut [u64],
+    drive: &mut Drive,
+    counted: &mut Counted,
+    buffers: &mut Buffers,
     inlog: &mut [u8],
-) -> LoopState
-    requires { (state_of drive medium.old ≡ formatted) × (counters.old ≡ no_counts) × BuffersFit reply.old rows.old lengths.old partitions.old }
-    ensures { ServeMet result medium.new input.new counters.new inlog.new }
+)
+    requires { (state_of drive.old buffers.old.medium ≡ formatted) × (buffers.old.counters ≡ no_counts) × (counted.old ≡ at_start) }
+    ensures { ServeMet (loop_state drive.new counted.new) buffers.new.medium buffers.new.input buffers.new.counters inlog.new }
 {
-    let mut t = LoopState {
-        drive,
-        intake: reader::start(),
-        calls: 0,
-    };
     loop {
-        t = round(
-            stdin, t, medium, input, reply, rows, lengths, partitions, counters, inlog,
-        );
-        let i = t.intake;
-        let o = i.outcome;
-        let Outcome::Running = o else {
-            return t;
-        };
+        round(stdin, drive, counted, buffers, inlog);
+        if counted.intake.stopped.is_some() {
+            return;
+        }
     }
 }
 
@@ -129,70 +103,63 @@ fn print(stdout: Stdout, counters: &[u64], calls: u64, out: &mut [u8], outlog: &
     ensures { Added outlog.old 0 (count_lines (counts_from 0 counters.now) ++ total calls) outlog.new result }
 {
     let lines = tally::put_counts(counters, out, 0);
-    let end = lines::put_total(out, lines, calls);
-    let w = logged::write(stdout, &out[..end], outlog, 0);
-    w.logged
+    let end = lines::put_last(out, lines, Last::Calls, calls);
+    let mut logged = 0;
+    // Output that can't be written ends the program as written output does.
+    let _ = logged::write(stdout, &out[..end], outlog, &mut logged);
+    logged
 }
 
-// The shift report, from a freshly formatted drive and counters of 0.
+// The shift report, from a freshly formatted drive and counters of 0: the rounds, and then the counts of their calls. It
+// returns how many bytes the log of the output has.
 fn run(
     stdin: Stdin,
     stdout: Stdout,
-    drive: drive::Drive,
-    medium: &mut [u8],
-    input: &mut [u8],
-    reply: &mut [u8],
-    rows: &mut [u32],
-    lengths: &mut [usize],
-    partitions: &mut [u8],
-    counters: &mut [u64],
-    out: &mut [u8],
+    drive: &mut Drive,
+    counted: &mut Counted,
+    buffers: &mut Buffers,
     inlog: &mut [u8],
     outlog: &mut [u8],
-) -> Printed
-    requires { (state_of drive medium.old ≡ formatted) × (counters.old ≡ no_counts) × BuffersFit reply.old rows.old lengths.old partitions.old × (out_size ≤ length out.old) }
-    ensures { RunMet result medium.new inlog.new outlog.new }
+) -> usize
+    requires { (state_of drive.old buffers.old.medium ≡ formatted) × (buffers.old.counters ≡ no_counts) × (counted.old ≡ at_start) }
+    ensures { RunMet (printed drive.new counted.new result) buffers.new.medium inlog.new outlog.new }
 {
-    let t = serve(
-        stdin, drive, medium, input, reply, rows, lengths, partitions, counters, inlog,
-    );
-    let d = t.drive;
-    let i = t.intake;
-    let logged = print(stdout, counters, t.calls, out, outlog);
-    Printed {
-        drive: d,
-        intake: i,
-        calls: t.calls,
-        logged,
-    }
+    serve(stdin, drive, counted, buffers, inlog);
+    print(
+        stdout,
+        &buffers.counters,
+        counted.calls,
+        &mut buffers.out,
+        outlog,
+    )
 }
 
 fn main(rt: HostRuntime) {
-    let mut medium = [0u8; BUFFER_SIZE];
-    let mut input = reader::input_buffer();
-    let mut reply = [0u8; BUFFER_SIZE];
-    let mut rows = [0u32; ANSWERS];
-    let mut lengths = [0usize; ANSWERS];
-    let mut partitions = [0u8; ANSWERS];
-    let mut counters = [0u64; tally::COUNTERS];
-    let mut out = [0u8; BUFFER_SIZE];
-    let mut inlog: [u8; 0] = [];
-    let mut outlog: [u8; 0] = [];
-    let f = drive::format(&mut medium, 1, &[0u8; 32], &[1u8; 32]);
-    let d = f.drive;
+    let no_answer = Answered {
+        answer: Ok(0),
+        partition: 0,
+    };
+    let mut buffers = Buffers {
+        medium: [0; BUFFER_SIZE],
+        input: reader::input_buffer(),
+        reply: [0; BUFFER_SIZE],
+        answers: [no_answer; ANSWERS],
+        counters: [0; tally::COUNTERS],
+        out: [0; BUFFER_SIZE],
+    };
+    let mut counted = Counted {
+        intake: reader::start(),
+        calls: 0,
+    };
+    let f = drive::format(&mut buffers.medium, 1, &[0u8; 32], &[1u8; 32]);
+    let mut drive = f.drive;
     run(
         rt.stdin(),
         rt.stdout(),
-        d,
-        &mut medium,
-        &mut input,
-        &mut reply,
-        &mut rows,
-        &mut lengths,
-        &mut partitions,
-        &mut counters,
-        &mut out,
-        &mut inlog,
-        &mut outlog,
+        &mut drive,
+        &mut counted,
+        &mut buffers,
+        &mut [],
+        &mut [],
     );
 }

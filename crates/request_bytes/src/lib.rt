@@ -8,22 +8,21 @@ ghost use Rattle.request_bytes.specs.Put.{request_put};
 pub fn put_request(r: rules::Request, space: &mut [u8])
     ensures { space.new ≡ request_put space.old r }
 {
-    let v: [u64; fields::GROUP_FIELDS] = [
-        r.magic as u64,
-        r.operation as u64,
-        r.level as u64,
+    let numbers = [
+        u64::from(r.magic),
+        u64::from(r.operation),
+        u64::from(r.level),
         r.time,
-        r.count as u64,
-        r.A as u64,
-        r.B as u64,
-        r.n as u64,
-        r.member as u64,
+        u64::from(r.count),
+        u64::from(r.A),
+        u64::from(r.B),
+        u64::from(r.n),
+        u64::from(r.member),
     ];
     if r.magic == fields::GROUP_MAGIC {
-        let widths = fields::GROUP_WIDTHS;
-        octets::layout::write(space, 0, &widths, &v);
-        return;
+        octets::layout::write(space, 0, &fields::GROUP_WIDTHS, &numbers);
+    } else {
+        let plain = &numbers[..fields::REQUEST_WIDTHS.len()];
+        octets::layout::write(space, 0, &fields::REQUEST_WIDTHS, plain);
     }
-    let widths = fields::REQUEST_WIDTHS;
-    octets::layout::write(space, 0, &widths, &v[..fields::REQUEST_FIELDS]);
 }

@@ -17,20 +17,13 @@ pub fn put_result(reply: &mut [u8], medium: &[u8], o: Operation, context: GrantC
             let from = start + offset as usize;
             extent::read_extent(medium, from, length as usize, reply, 8);
         }
-        Operation::Write {
-            offset: _,
-            length: _,
-        } => {}
         Operation::Look => {
-            octets::put(reply, 8, 4, context.looksize as u64);
-            octets::put(reply, 12, 4, context.version as u64);
+            octets::put(reply, 8, 4, u64::from(context.looksize));
+            octets::put(reply, 12, 4, u64::from(context.version));
         }
-        Operation::Raise => octets::put(reply, 8, 4, context.nextversion as u64),
-        Operation::Create { number: _, size: _ } => {
-            octets::put(reply, 8, 4, context.nextversion as u64);
+        Operation::Raise | Operation::Create { .. } => {
+            octets::put(reply, 8, 4, u64::from(context.nextversion))
         }
-        Operation::Delete => {}
-        Operation::SetKey { target: _ } => {}
-        Operation::LoadTable => {}
+        _ => {}
     }
 }

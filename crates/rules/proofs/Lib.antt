@@ -3,6 +3,8 @@
 -- shift report (`Counts`), the two heads (`TwoHeads`), the sixteen-byte steps (`Steps`), the operation table
 -- (`OperationTable`), the group credential (`GroupCredential`). The other files lead to these.
 pub mod Answers
+-- a table of rows, judged by a `?` for each
+pub mod Refused
 -- the placing rule
 pub mod Gaps
 pub mod Placing

@@ -9,6 +9,7 @@ pub mod BestFit
 pub mod Operations
 pub mod Group
 pub mod Rows
+pub mod Refusals
 pub mod Gate
 pub mod Client
 pub mod Ledger

@@ -1,5 +1,9 @@
-// Document 01's records and numbers, shared by the definitions in specs/ and by the code above. This crate has no function.
+// Document 01's records and numbers, shared by the definitions in specs/ and by the code above.
 #![tactic(auto)]
+
+mod refusal;
+
+pub use refusal::{Refusal, refuse, row_of};
 
 // "M is at most 16,777,216"; "at most 16 a partition"; "64 at most".
 pub const LARGEST_MEDIUM: usize = 16777216;
@@ -94,7 +98,7 @@ pub struct Need {
 
 // An entry of a replay memory ("nonce memory" in document 01): document 01's four numbers and, since change 2 of document 02, the
 // credential's object, 0 for the partition.
-#[derive(Clone, Copy)]
+#[derive(Clone, Copy, PartialEq, Eq)]
 pub struct Entry {
     pub slot: u32,
     pub holder: u32,

@@ -1,167 +1,131 @@
-// Frames, built by the client end from the player's numbers.
-ghost use Rattle.std.specs.Prelude.{◌≡◌, length};
-
-use crate::script;
-use crate::words::{
-    A, B, COUNT, END, EXPIRY, FIRST, HOLDER, LEAST, LEVEL, LINE_NUMBERS, LIST, LOAD, MEMBER,
-    NUMBERS, OBJECT, PARTITION, RIGHTS, SLOT, TIME, VERSION, WORD, WRITE,
-};
-use rules::Credential;
+// Frames, built by the client end from the script's settings and a line's numbers.
+use crate::script::{LINE_NUMBERS, Line};
+use crate::settings::Settings;
+use crate::words::Call;
+use rules::{Credential, Refusal};
 
 // A load's data: "two of mask and one of level" for each of seven operations, from the line's numbers.
+const NEEDS_SIZE: usize = 21;
+
 const NEEDS_WIDTHS: [usize; LINE_NUMBERS] = [2, 1, 2, 1, 2, 1, 2, 1, 2, 1, 2, 1, 2, 1];
 
 // A list's data: four bytes for each of the line's numbers.
 const MEMBER_SIZE: usize = 4;
 
+const LIST_SIZE: usize = MEMBER_SIZE * LINE_NUMBERS;
+
 const LIST_WIDTHS: [usize; LINE_NUMBERS] = [MEMBER_SIZE; LINE_NUMBERS];
 
-const LINE_END: usize = A + LINE_NUMBERS;
-
-// What rights bit 7, that of a group credential, counts.
+// Rights bit 7, that of a group credential.
+// Kept, the new form is no plainer: `record_rows` has the same number to itself, and hands out no part of row 6.
 const GROUP_RIGHT: u16 = 128;
 
-// A number as one byte, two or four: the largest where it is larger.
-pub fn one(x: u64) -> u8 {
-    if x < 256 { x as u8 } else { 255 }
+// A number in a narrower type: the largest of that type where it is larger.
+pub fn saturated<T: TryFrom<u64> + Copy>(x: u64, largest: T) -> T
+where
+    T::Error: Drop,
+{
+    T::try_from(x).unwrap_or(largest)
 }
 
-fn two(x: u64) -> u16 {
-    if x < 65536 { x as u16 } else { 65535 }
-}
-
-pub fn four(x: u64) -> u32 {
-    if x < 0x100000000 {
-        x as u32
-    } else {
-        0xffffffff
-    }
-}
-
-fn credential_of(n: [u64; NUMBERS]) -> Credential {
+fn credential_of(s: &Settings) -> Credential {
     Credential {
         magic: fields::CREDENTIAL_MAGIC,
-        partition: one(n[PARTITION]),
-        slot: one(n[SLOT]),
-        object: four(n[OBJECT]),
-        version: four(n[VERSION]),
-        rights: two(n[RIGHTS]),
-        least: one(n[LEAST]),
+        partition: saturated(s.partition, u8::MAX),
+        slot: saturated(s.slot, u8::MAX),
+        object: saturated(s.object, u32::MAX),
+        version: saturated(s.version, u32::MAX),
+        rights: saturated(s.rights, u16::MAX),
+        least: saturated(s.least, u8::MAX),
         zero: 0,
-        first: four(n[FIRST]),
-        end: four(n[END]),
-        expiry: n[EXPIRY],
-        holder: four(n[HOLDER]),
+        first: saturated(s.first, u32::MAX),
+        end: saturated(s.end, u32::MAX),
+        expiry: s.expiry,
+        holder: saturated(s.holder, u32::MAX),
     }
 }
 
-// Whether the credential is a group's, and so the request.
-fn is_group(n: [u64; NUMBERS]) -> bool {
-    two(n[RIGHTS]) / GROUP_RIGHT % 2 == 1
+// An operation with its arguments A and B.
+#[derive(Clone, Copy)]
+struct Operation {
+    number: u8,
+    a: u64,
+    b: u64,
 }
 
-fn magic_of(n: [u64; NUMBERS]) -> u16 {
-    if is_group(n) {
-        fields::GROUP_MAGIC
+// The numbers of a request for an operation with n data bytes, in the order of a group's, which ends in the member.
+fn request_of(
+    s: &Settings,
+    magic: u16,
+    operation: Operation,
+    n: u64,
+) -> [u64; fields::GROUP_FIELDS] {
+    [
+        u64::from(magic),
+        u64::from(operation.number),
+        s.level,
+        s.time,
+        s.count,
+        operation.a,
+        operation.b,
+        n,
+        s.member,
+    ]
+}
+
+// Writes the frame of an operation with these data bytes into space, and answers its length: the credential's issuer and the
+// frame builder are the product's own. Under a group's credential it is a group's request.
+fn build_with(
+    s: &Settings,
+    operation: Operation,
+    key: &[u8],
+    data: &[u8],
+    space: &mut [u8],
+) -> Result<usize, Refusal> {
+    let credential = credential_of(s);
+    let (magic, size) = if credential.rights & GROUP_RIGHT == 0 {
+        (fields::REQUEST_MAGIC, fields::REQUEST_SIZE)
     } else {
-        fields::REQUEST_MAGIC
+        (fields::GROUP_MAGIC, fields::GROUP_REQUEST_SIZE)
+    };
+    let mut bytes = [0u8; fields::CREDENTIAL_SIZE];
+    let secret = client::issue(credential, key, &mut bytes)?;
+    let mut request = [0u8; fields::GROUP_REQUEST_SIZE];
+    let numbers = request_of(s, magic, operation, data.len() as u64);
+    octets::layout::write(&mut request, 0, &fields::GROUP_WIDTHS, &numbers);
+    client::build(&bytes, &request[..size], data, &secret, space)
+}
+
+// Writes the frame of a call's line; its data is the line's text, a load's table, or a list. B counts the bytes that are
+// written.
+pub fn build(
+    s: &Settings,
+    call: Call,
+    line: Line,
+    key: &[u8],
+    space: &mut [u8],
+) -> Result<usize, Refusal> {
+    let numbers = line.head().numbers();
+    let [a, b, ..] = numbers;
+    let number = call.operation();
+    match call {
+        Call::Load => {
+            let mut needs = [0u8; NEEDS_SIZE];
+            octets::layout::write(&mut needs, 0, &NEEDS_WIDTHS, &numbers);
+            build_with(s, Operation { number, a: 0, b: 0 }, key, &needs, space)
+        }
+        Call::List => {
+            let mut list = [0u8; LIST_SIZE];
+            octets::layout::write(&mut list, 0, &LIST_WIDTHS, &numbers);
+            let n = MEMBER_SIZE * line.number_count();
+            let b = n as u64;
+            build_with(s, Operation { number, a: 0, b }, key, &list[..n], space)
+        }
+        Call::Write => {
+            let text = line.text();
+            let b = text.len() as u64;
+            build_with(s, Operation { number, a, b }, key, text, space)
+        }
+        _ => build_with(s, Operation { number, a, b }, key, line.text(), space),
     }
-}
-
-fn size_of(n: [u64; NUMBERS]) -> usize {
-    if is_group(n) {
-        fields::GROUP_REQUEST_SIZE
-    } else {
-        fields::REQUEST_SIZE
-    }
-}
-
-// The operation is the word's; a list is written.
-fn operation_of(n: [u64; NUMBERS]) -> u64 {
-    if n[WORD] as usize == LIST {
-        WRITE as u64
-    } else {
-        n[WORD]
-    }
-}
-
-// A is the line's first number; a load's and a list's is 0.
-fn a_of(n: [u64; NUMBERS]) -> u64 {
-    match n[WORD] as usize {
-        LOAD | LIST => 0,
-        _ => n[A],
-    }
-}
-
-// B is the line's second number; in a write how many data bytes there are, in a load 0.
-fn b_of(n: [u64; NUMBERS], count: usize) -> u64 {
-    match n[WORD] as usize {
-        WRITE | LIST => count as u64,
-        LOAD => 0,
-        _ => n[B],
-    }
-}
-
-// The bytes of the line's request, with so many data bytes. A group's request has them all, any other but the member's four.
-fn request_of(n: [u64; NUMBERS], count: usize) -> [u8; 32]
-    ensures { 32 ≡ length result }
-{
-    let mut bytes = [0u8; 32];
-    let widths = fields::GROUP_WIDTHS;
-    let v: [u64; fields::GROUP_FIELDS] = [
-        magic_of(n) as u64,
-        operation_of(n),
-        n[LEVEL],
-        n[TIME],
-        n[COUNT],
-        a_of(n),
-        b_of(n, count),
-        count as u64,
-        n[MEMBER],
-    ];
-    octets::layout::write(&mut bytes, 0, &widths, &v);
-    bytes
-}
-
-// The 21 data bytes of a load.
-fn needs_of(n: [u64; NUMBERS]) -> [u8; 21] {
-    let mut bytes = [0u8; 21];
-    let widths = NEEDS_WIDTHS;
-    octets::layout::write(&mut bytes, 0, &widths, &n[A..LINE_END]);
-    bytes
-}
-
-// The data bytes of a list, and zeros for the numbers that the line lacks.
-fn list_of(n: [u64; NUMBERS]) -> [u8; 56] {
-    let mut bytes = [0u8; 56];
-    let widths = LIST_WIDTHS;
-    octets::layout::write(&mut bytes, 0, &widths, &n[A..LINE_END]);
-    bytes
-}
-
-// Writes the frame of a line with these data bytes into space, and answers its length, 0 where it is refused: the
-// credential's issuer and the frame builder are the product's own.
-fn build_with(n: [u64; NUMBERS], key: [u8; 32], payload: &[u8], space: &mut [u8]) -> usize {
-    let mut credential = [0u8; 36];
-    let issued = client::issue(credential_of(n), &key, &mut credential);
-    let secret = issued.key;
-    let bytes = request_of(n, payload.len());
-    let request = script::part(&bytes, 0, size_of(n));
-    let built = client::build(&credential, request, payload, &secret, space);
-    built.length
-}
-
-// Writes the frame of a line; its data is the line's text, a load's table, or a list.
-pub fn build(n: [u64; NUMBERS], key: [u8; 32], line: &[u8], space: &mut [u8]) -> usize {
-    let word = n[WORD] as usize;
-    if word == LOAD {
-        let needs = needs_of(n);
-        return build_with(n, key, &needs, space);
-    }
-    if word == LIST {
-        let list = list_of(n);
-        let end = MEMBER_SIZE * script::number_count(line);
-        return build_with(n, key, script::part(&list, 0, end), space);
-    }
-    build_with(n, key, script::text(line), space)
 }

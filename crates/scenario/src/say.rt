@@ -2,23 +2,12 @@
 use std::io;
 use std::io::{Print, Stdout};
 
-fn print_byte(out: Stdout, x: u8) -> io::Result<()> {
-    out.print(format_args!("{x:02x}"))
-}
-
 // Two hexadecimal digits a byte.
 fn print_bytes(out: Stdout, bytes: &[u8]) -> io::Result<()> {
-    let mut i: usize = 0;
-    while i < bytes.len() {
-        print_byte(out, bytes[i])?;
-        i += 1;
+    for x in bytes {
+        out.print(format_args!("{x:02x}"))?;
     }
     Ok(())
-}
-
-fn print_number(out: Stdout, x: u64) -> io::Result<()> {
-    out.write_all(b" ")?;
-    out.print(x)
 }
 
 // A line of text as it is.
@@ -34,20 +23,25 @@ pub fn error(out: Stdout, text: &[u8]) -> io::Result<()> {
 }
 
 pub fn number(out: Stdout, label: &[u8], x: u64) -> io::Result<()> {
-    out.write_all(label)?;
-    out.write_all(b":")?;
-    print_number(out, x)?;
-    out.write_all(b"\n")
+    numbers(out, label, &[x])
 }
 
 // Numbers in one line.
 pub fn numbers(out: Stdout, label: &[u8], xs: &[u64]) -> io::Result<()> {
     out.write_all(label)?;
     out.write_all(b":")?;
-    let mut i: usize = 0;
-    while i < xs.len() {
-        print_number(out, xs[i])?;
-        i += 1;
+    for x in xs {
+        out.print(format_args!(" {x}"))?;
+    }
+    out.write_all(b"\n")
+}
+
+// What each operation needs: its mask and its least level.
+pub fn needs(out: Stdout, label: &[u8], masks: &[u32], leasts: &[u32]) -> io::Result<()> {
+    out.write_all(label)?;
+    out.write_all(b":")?;
+    for (mask, least) in masks.iter().zip(leasts) {
+        out.print(format_args!(" {mask} {least}"))?;
     }
     out.write_all(b"\n")
 }
@@ -61,13 +55,11 @@ pub fn bytes(out: Stdout, label: &[u8], b: &[u8]) -> io::Result<()> {
 
 // A call's line: what it is, its row, and the reply where there is one.
 pub fn answer(out: Stdout, label: &[u8], row: u32, reply: &[u8]) -> io::Result<()> {
-    if reply.len() == 0 {
-        return number(out, label, row as u64);
+    if reply.is_empty() {
+        return number(out, label, u64::from(row));
     }
     out.write_all(label)?;
-    out.write_all(b":")?;
-    print_number(out, row as u64)?;
-    out.write_all(b" ")?;
+    out.print(format_args!(": {row} "))?;
     print_bytes(out, reply)?;
     out.write_all(b"\n")
 }

@@ -1,167 +1,169 @@
 // The script: its lines, and the parts of a line. A line is a word, decimal numbers, for some words a text in quotes,
 // and behind a colon the label that is printed.
 ghost use Rattle.std.specs.Prelude.{◌<◌, ◌≤◌, length};
+ghost use Rattle.std.specs.Iterator.{at_most};
 
-use crate::words::LINE_NUMBERS;
+// How many numbers of a line are read.
+pub const LINE_NUMBERS: usize = 14;
 
-// The bytes from place `from` up to `to`; none where they are not all there.
-pub fn part<'a>(s: &'a [u8], from: usize, to: usize) -> &'a [u8] {
-    if to > s.len() {
-        return &s[..0];
-    }
-    if from > to {
-        return &s[..0];
-    }
-    &s[from..to]
-}
-
-// The first place from `from` on that has the byte b, else the end.
-pub fn find(s: &[u8], from: usize, b: u8) -> usize
-    ensures { from ≤ result }
+// What stands before the first byte b, and what behind it; all and nothing where there is none.
+fn split_once(s: &[u8], b: u8) -> (&[u8], &[u8])
+    ensures { 0 < length s.now → length result.1.now < length s.now }
 {
-    let mut i = from;
-    while i < s.len() {
-        if s[i] == b {
-            return i;
-        }
-        i += 1;
+    match s.iter().position(|x| *x == b) {
+        Some(at) => (&s[..at], &s[at + 1..]),
+        None => (s, &[]),
     }
-    i
 }
 
-// The first place from `from` on that has another byte than b, else the end.
-fn skip(s: &[u8], from: usize, b: u8) -> usize {
-    let mut i = from;
-    while i < s.len() {
-        if s[i] != b {
-            return i;
-        }
-        i += 1;
-    }
-    i
-}
-
-// The place behind the first byte b from `from` on, else the end.
-pub fn behind(s: &[u8], from: usize, b: u8) -> usize
-    ensures { from < length s.now → from < result }
+// Without the spaces that it begins with.
+fn trimmed(s: &[u8]) -> &[u8]
+    ensures { length result.now ≤ length s.now }
 {
-    let i = find(s, from, b);
-    if i < s.len() { i + 1 } else { i }
-}
-
-// Where the word starts that is k words behind `from`.
-fn word_start(s: &[u8], from: usize, k: usize) -> usize {
-    let mut at = from;
-    let mut i: usize = 0;
-    while i < k {
-        at = find(s, at, b' ');
-        at = skip(s, at, b' ');
-        i += 1;
+    match s.iter().position(|x| *x != b' ') {
+        Some(at) => &s[at..],
+        None => &[],
     }
-    at
 }
 
-// The word of a line behind k others.
-pub fn word<'a>(line: &'a [u8], k: usize) -> &'a [u8] {
-    let at = word_start(line, 0, k);
-    let to = find(line, at, b' ');
-    part(line, at, to)
+fn digit(c: u8) -> Option<u8> {
+    c.checked_sub(b'0').filter(|d| *d < 10)
 }
 
-// What comes before the colon.
-pub fn head<'a>(line: &'a [u8]) -> &'a [u8] {
-    let to = find(line, 0, b':');
-    part(line, 0, to)
+// The number that the digits at the start spell, 0 where there are none; the largest number where that is too large.
+pub fn number(word: &[u8]) -> u64 {
+    word.iter().map_while(|c| digit(*c)).fold(0u64, |x, d| {
+        x.saturating_mul(10).saturating_add(u64::from(d))
+    })
 }
 
-// What is printed for a line: the text behind the colon, or the line's word where there is no colon.
-pub fn label<'a>(line: &'a [u8]) -> &'a [u8] {
-    let at = behind(line, 0, b':');
-    let from = skip(line, at, b' ');
-    if from < line.len() {
-        return part(line, from, line.len());
-    }
-    word(line, 0)
+// The words of a line that are left.
+#[derive(Clone, Copy)]
+pub struct Words<'a> {
+    rest: &'a [u8],
 }
 
-// The text between the quotes.
-pub fn text<'a>(line: &'a [u8]) -> &'a [u8] {
-    let s = head(line);
-    let from = behind(s, 0, b'"');
-    let to = find(s, from, b'"');
-    part(s, from, to)
-}
+impl<'a> Iterator for Words<'a> {
+    type Item = &'a [u8];
 
-// x with one more digit; the largest number where that is too large.
-fn with_digit(x: u64, c: u8) -> u64 {
-    if x > 0x1999999999999999 {
-        return u64::MAX;
-    }
-    if c < b'0' {
-        return x;
-    }
-    let tens = x * 10;
-    let digit = (c - b'0') as u64;
-    if tens > u64::MAX - digit {
-        return u64::MAX;
-    }
-    tens + digit
-}
+    ghost remaining = { λ s. at_most (length s.rest.now) };
 
-// The number that the digits from a place on spell, 0 where there are none.
-fn number_at(s: &[u8], at: usize) -> u64 {
-    let mut x: u64 = 0;
-    let mut i = at;
-    while i < s.len() {
-        let c = s[i];
-        if (c < b'0') | (c > b'9') {
-            return x;
+    fn next(&mut self) -> Option<&'a [u8]> {
+        let rest = trimmed(self.rest);
+        if rest.is_empty() {
+            return None;
         }
-        x = with_digit(x, c);
-        i += 1;
+        let (word, behind) = split_once(rest, b' ');
+        self.rest = behind;
+        Some(word)
     }
-    x
 }
 
-// The k-th number of a line; `absent` where it has fewer.
-pub fn number_or(line: &[u8], k: usize, absent: u64) -> u64 {
-    let at = word_start(line, 0, k);
-    if at < line.len() {
-        return number_at(line, at);
-    }
-    absent
+#[derive(Clone, Copy)]
+pub struct Line<'a> {
+    bytes: &'a [u8],
 }
 
-// How many numbers a line has.
-pub fn number_count(line: &[u8]) -> usize
-    ensures { result ≤ 14 }
-{
-    let s = head(line);
-    let mut k: usize = 0;
-    while k < LINE_NUMBERS {
-        if word_start(s, 0, k + 1) >= s.len() {
-            return k;
+impl<'a> Line<'a> {
+    pub fn empty() -> Line<'a> {
+        Line { bytes: &[] }
+    }
+
+    pub fn bytes(self) -> &'a [u8] {
+        self.bytes
+    }
+
+    // What comes before the colon.
+    pub fn head(self) -> Line<'a> {
+        Line {
+            bytes: split_once(self.bytes, b':').0,
         }
-        k += 1;
     }
-    k
-}
 
-// Whether a line opens the part that another line names.
-fn opens(line: &[u8], by: &[u8]) -> bool {
-    octets::same(word(line, 0), b"part") & octets::same(word(line, 1), word(by, 1))
-}
+    // Its first word, empty where the line begins with a space.
+    pub fn word(self) -> &'a [u8] {
+        split_once(self.bytes, b' ').0
+    }
 
-// Where the lines of the part start that a line names; the end where there is no such part.
-pub fn part_start(script: &[u8], by: &[u8]) -> usize {
-    let mut at: usize = 0;
-    while at < script.len() {
-        let to = find(script, at, b'\n');
-        let next = behind(script, at, b'\n');
-        if opens(part(script, at, to), by) {
-            return next;
+    // The words behind the first one.
+    pub fn words(self) -> Words<'a> {
+        Words {
+            rest: split_once(self.bytes, b' ').1,
         }
-        at = next;
     }
-    at
+
+    // The numbers behind the first word, and 0 for those that the line lacks.
+    pub fn numbers(self) -> [u64; LINE_NUMBERS] {
+        let mut numbers = [0; LINE_NUMBERS];
+        for (x, word) in numbers.iter_mut().zip(self.words()) {
+            *x = number(word);
+        }
+        numbers
+    }
+
+    // How many numbers a line has.
+    pub fn number_count(self) -> usize
+        ensures { result ≤ 14 }
+    {
+        self.head().words().take(LINE_NUMBERS).count()
+    }
+
+    // What is printed for a line: the text behind the colon, or the line's word where there is none.
+    pub fn label(self) -> &'a [u8] {
+        let text = trimmed(split_once(self.bytes, b':').1);
+        if text.is_empty() { self.word() } else { text }
+    }
+
+    // The text between the quotes.
+    pub fn text(self) -> &'a [u8] {
+        let quoted = split_once(self.head().bytes, b'"').1;
+        split_once(quoted, b'"').0
+    }
+
+    // Whether it opens the part that another line names.
+    fn opens(self, by: Line) -> bool {
+        self.word() == b"part".as_slice() && self.words().next() == by.words().next()
+    }
+}
+
+// The lines of a script that are left.
+#[derive(Clone, Copy)]
+pub struct Lines<'a> {
+    rest: &'a [u8],
+}
+
+impl<'a> Lines<'a> {
+    pub fn of(script: &'a [u8]) -> Lines<'a> {
+        Lines { rest: script }
+    }
+
+    pub fn end() -> Lines<'a> {
+        Lines { rest: &[] }
+    }
+
+    // The lines of the part that a line names; none where there is no such part.
+    pub fn part(self, by: Line) -> Lines<'a> {
+        let mut lines = self;
+        for line in &mut lines {
+            if line.opens(by) {
+                break;
+            }
+        }
+        lines
+    }
+}
+
+impl<'a> Iterator for Lines<'a> {
+    type Item = Line<'a>;
+
+    ghost remaining = { λ s. at_most (length s.rest.now) };
+
+    fn next(&mut self) -> Option<Line<'a>> {
+        if self.rest.is_empty() {
+            return None;
+        }
+        let (bytes, behind) = split_once(self.rest, b'\n');
+        self.rest = behind;
+        Some(Line { bytes })
+    }
 }

@@ -9,6 +9,7 @@ use digest::mac::Mac;
 use effect::GrantContext;
 use rules::{Operation, Request};
 
+// Kept, the new form is no plainer: a reply and how many of its bytes are written. The digest goes behind them, so the call needs both.
 // The digest of what `hash` took and the reply's first n bytes goes after these.
 pub fn seal(reply: &mut [u8], hash: Mac, n: usize)
     ensures { reply.new ≡ seal_put hash n reply.old }

@@ -5,7 +5,7 @@ ghost use Rattle.std.specs.Prelude.{◌≡◌};
 ghost use Rattle.set_key.specs.Keys.{keys_after};
 
 use digest::mac;
-use rules::{KEY_SIZE, Operation};
+use rules::Operation;
 
 // The keys after an operation under key `j`, which is the one in a slot as partition `p` has it; `signed` is the request and
 // the seed. Where that key was never set, nothing is written.
@@ -15,9 +15,9 @@ pub fn apply(keys: &mut [u8], o: Operation, j: usize, slot: u8, p: usize, signed
     let Operation::SetKey { target } = o else {
         return;
     };
-    if !keyring::is_set(&*keys, j) {
+    let Some(key) = keyring::key(&*keys, j) else {
         return;
-    }
-    let new = mac::of(&keys[KEY_SIZE * j..KEY_SIZE * j + KEY_SIZE], signed);
+    };
+    let new = mac::of(key, signed);
     keyring::store_key(keys, slot, p, target as usize, &new);
 }

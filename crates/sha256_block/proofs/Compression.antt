@@ -1,5 +1,5 @@
 -- One block: the words read, the schedule made word by word, the rounds taken one by one, and the blocks of a message.
-use Rattle.std.proofs.Common.{◌≡◌, ℕ, zero, suc, ◌+◌, ◌-◌, ◌*◌, ◌/◌, ◌%◌, ◌^◌, ◌<◌, ◌≤◌, List, [], ◌∷◌, ◌++◌, length, get_or, take, drop, set, sym, refl, ap, ◌∙◌, ap₂, add-zero, suc-add, zero-add, add-one, arith, length-append, length-drop, length-set, take-append-drop, length-take-le, get_or-drop, drop-cons, get_or-take, get_or-set_same, drop-drop, take-suc-set}
+use Rattle.std.proofs.Common.{◌≡◌, ℕ, zero, suc, ◌+◌, ◌-◌, ◌*◌, ◌/◌, ◌^◌, ◌<◌, ◌≤◌, List, [], ◌∷◌, ◌++◌, length, get_or, take, drop, set, sym, refl, ap, ◌∙◌, ap₂, add-zero, suc-add, zero-add, add-one, arith, length-append, length-drop, length-set, take-append-drop, length-take-le, get_or-drop, drop-cons, get_or-take, get_or-set_same, drop-drop, take-suc-set}
 use native.Mathlib.Decide.{dec_lt}
 use lib.ListN.{get_or-append}
 use lib.Seq.{drop-append-le}
@@ -197,22 +197,14 @@ blocks-add (suc q) k s m =
       e,
     )
 
-pub blocks_none : (from : ℕ) (v : State) (m : List ℕ) → v ≡ blocks ((from - from) / 64) v (drop from m)
-unfolding blocks
-blocks_none from v m =
-    let e : 0 ≡ (from - from) / 64 = omega arith in
-    ap (λ (n : ℕ). blocks n v (drop from m)) e
-
--- the blocks from `from` up to `at` are worked in, and then k more, of j in all
-pub blocks_then : (k j from at : ℕ) (v : State) (m : List ℕ)
-    → from ≤ at → (at - from) % 64 ≡ 0 → j ≡ (at - from) / 64 + k
-    → blocks k (blocks ((at - from) / 64) v (drop from m)) (drop at m) ≡ blocks j v (drop from m)
-blocks_then k j from at v m h r e =
-    let n : ℕ = (at - from) / 64 in
-    let f : from + n * 64 ≡ at = omega arith in
-    ap (blocks k (blocks n v (drop from m))) (ap (λ (i : ℕ). drop i m) (sym f) ∙ sym (drop-drop (n * 64) from m))
-    ∙ sym (blocks-add n k v (drop from m))
-    ∙ ap (λ (i : ℕ). blocks i v (drop from m)) (sym e)
+-- i blocks from `from` on are worked in, and then k more from `at` on, of j in all
+pub blocks_then : (k i j from at : ℕ) (v : State) (m : List ℕ) → at ≡ from + 64 * i → j ≡ i + k
+    → blocks k (blocks i v (drop from m)) (drop at m) ≡ blocks j v (drop from m)
+blocks_then k i j from at v m h e =
+    let f : from + i * 64 ≡ at = omega arith in
+    ap (blocks k (blocks i v (drop from m))) (ap (λ (n : ℕ). drop n m) (sym f) ∙ sym (drop-drop (i * 64) from m))
+    ∙ sym (blocks-add i k v (drop from m))
+    ∙ ap (λ (n : ℕ). blocks n v (drop from m)) (sym e)
 
 -- as many eights as there are, and then the others
 pub blocks_after_eights : (from : ℕ) (v : State) (m : List ℕ) → from ≤ length m
@@ -222,9 +214,7 @@ pub blocks_after_eights : (from : ℕ) (v : State) (m : List ℕ) → from ≤ l
 blocks_after_eights from v m h =
     let n : ℕ = length m - from in
     let at : ℕ = from + n / 512 * 512 in
-    let e : n / 512 * 8 ≡ (at - from) / 64 = omega arith in
-    ap (λ (i : ℕ). blocks ((length m - at) / 64) (blocks i v (drop from m)) (drop at m)) e
-    ∙ blocks_then ((length m - at) / 64) (n / 64) from at v m (omega arith) (omega arith) (omega arith)
+    blocks_then ((length m - at) / 64) (n / 512 * 8) (n / 64) from at v m (omega arith) (omega arith)
 
 -- block l of m, after those before it
 pub block_next : (l : ℕ) (v u : State) (m : List ℕ) → 64 * l + 64 ≤ length m → u ≡ blocks l v m

@@ -1,7 +1,8 @@
 -- The end of a message: its last block by the padding's two cases, and the digest's bytes.
-use Rattle.std.proofs.Common.{◌≡◌, ℕ, ◌+◌, ◌*◌, ◌/◌, ◌%◌, ◌^◌, ◌<◌, ◌≤◌, List, [], ◌∷◌, ◌++◌, length, get_or, take, set, replicate, sym, refl, ap, ◌∙◌, add-one, arith, length-append, take_all, take-suc, take_at, drop_at}
-use Rattle.lemmas.specs.BigEndian.{big_endian, digit, length-big_endian}
-use Rattle.lemmas.specs.Fill.{sets_four}
+use Rattle.std.proofs.Common.{◌≡◌, ℕ, ◌+◌, ◌*◌, ◌/◌, ◌%◌, ◌^◌, ◌<◌, ◌≤◌, List, [], ◌∷◌, ◌++◌, length, get_or, take, replicate, sym, refl, ap, ◌∙◌, add-one, arith, length-append, take_all, take-suc, take_at, drop_at}
+use Rattle.lemmas.specs.BigEndian.{big_endian, length-big_endian}
+use Rattle.std.proofs.lemmas.Slice.{take-put_mid}
+use borrow.Rule.Slice.PartMut.{put_mid}
 use Rattle.sha256_block.specs.declared.State.{State}
 use Rattle.sha256_stream.specs.declared.Hash.{Hash}
 use Rattle.sha256_block.specs.Sha256.{compress, blocks, bytes}
@@ -29,22 +30,13 @@ unfolding joined big_endian
 joined_more [] x = refl
 joined_more (y ∷ w) x = rw (joined_more w x)
 
--- one word more
-pub joined_step : (out w : List ℕ) (i : ℕ) → i < length w → 4 * i + 4 ≤ length out
-    → take (4 * i) out ≡ joined (take i w)
-    → take (4 * (i + 1))
-    (set
-    (set (set (set out (4 * i) (get_or w i 0 / 2 ^ 24 % 256)) (4 * i + 1) (get_or w i 0 / 2 ^ 16 % 256)) (4 * i + 2)
-    (get_or w i 0 / 2 ^ 8 % 256))
-    (4 * i + 3)
-    (get_or w i 0 % 256))
-    ≡ joined (take (i + 1) w)
-unfolding big_endian digit
-joined_step out w i hw ho e =
-    let n : 4 * (i + 1) ≡ 4 * i + 4 = omega arith in
-    let x : ℕ = get_or w i 0 in
-    rw (n, sets_four out (4 * i) (x / 2 ^ 24 % 256) (x / 2 ^ 16 % 256) (x / 2 ^ 8 % 256) (x % 256) ho, e)
-    (sym (joined_more (take i w) x) ∙ ap joined (sym (ap (λ (k : ℕ). take k w) (add-one i) ∙ take-suc w i 0 hw)))
+-- one word more, copied behind those before it
+pub joined_step : (out w b : List ℕ) (i k : ℕ) → i < length w → 4 * i ≤ length out → b ≡ big_endian 4 (get_or w i 0)
+    → take (4 * i) out ≡ joined (take i w) → take (4 * (i + 1)) (put_mid (4 * i) k out b) ≡ joined (take (i + 1) w)
+joined_step out w b i k hw ho eb e =
+    let n : 4 * (i + 1) ≡ 4 * i + length b = omega (arith, ap length eb, length-big_endian 4 (get_or w i 0)) in
+    take-put_mid (4 * i) k out b (4 * (i + 1)) n ho
+    ∙ rw (e, eb) (sym (joined_more (take i w) (get_or w i 0)) ∙ ap joined (sym (ap (λ (k : ℕ). take k w) (add-one i) ∙ take-suc w i 0 hw)))
 
 -- ---- the end
 

@@ -11,7 +11,6 @@ ghost use Rattle.sha256_block.specs.PaddingCases.{zero_filled};
 ghost use Rattle.sha256_stream.specs.Stream.{started, absorbed, finished};
 
 use sha256_block::{State, blocks, compress};
-use std::num::wrapping_add_u64;
 
 // Where the length field starts in its block, and the most bytes that a last block can have for it to fit (FIPS 180-4, 5.1.1).
 const LENGTH_AT: usize = 56;
@@ -32,29 +31,20 @@ fn bytes_of(s: State) -> [u8; 32]
 {
     let words = [s.a, s.b, s.c, s.d, s.e, s.f, s.g, s.h];
     let mut out = [0u8; 32];
-    let mut i: usize = 0;
-    while i < 8 {
-        let x = words[i];
-        out[4 * i] = ((x >> 24) % 256) as u8;
-        out[4 * i + 1] = ((x >> 16) % 256) as u8;
-        out[4 * i + 2] = ((x >> 8) % 256) as u8;
-        out[4 * i + 3] = (x % 256) as u8;
-        i += 1;
+    for (i, x) in words.iter().enumerate() {
+        out[4 * i..4 * i + 4].copy_from_slice(&x.to_be_bytes());
     }
     out
 }
 
+// Kept, the new form is no plainer: places and a count, and not parts, since the count of all bytes tells how many of `pending` are in use.
 // `pending` with `count` bytes of `s`, from `at` on, put after its first `used`.
 fn stashed(pending: [u8; 64], used: usize, s: &[u8], at: usize, count: usize) -> [u8; 64]
     requires { (used + count ≤ 64) × (at + count ≤ length s.now) }
     ensures { result ≡ paste pending used (drop at s.now) count }
 {
     let mut p = pending;
-    let mut i: usize = 0;
-    while i < count {
-        p[used + i] = s[at + i];
-        i += 1;
-    }
+    p[used..used + count].copy_from_slice(&s[at..at + count]);
     p
 }
 
@@ -65,11 +55,7 @@ fn marked(pending: [u8; 64], used: usize, end: usize) -> [u8; 64]
 {
     let mut p = pending;
     p[used] = 0x80;
-    let mut i = used + 1;
-    while i < end {
-        p[i] = 0;
-        i += 1;
-    }
+    p[used + 1..end.max(used + 1)].fill(0);
     p
 }
 
@@ -78,14 +64,7 @@ fn with_length(p: [u8; 64], bits: u64) -> [u8; 64]
     ensures { result ≡ take 56 p ++ big_endian 8 bits }
 {
     let mut q = p;
-    q[56] = ((bits >> 56) % 256) as u8;
-    q[57] = ((bits >> 48) % 256) as u8;
-    q[58] = ((bits >> 40) % 256) as u8;
-    q[59] = ((bits >> 32) % 256) as u8;
-    q[60] = ((bits >> 24) % 256) as u8;
-    q[61] = ((bits >> 16) % 256) as u8;
-    q[62] = ((bits >> 8) % 256) as u8;
-    q[63] = (bits % 256) as u8;
+    q[LENGTH_AT..].copy_from_slice(&bits.to_be_bytes());
     q
 }
 
@@ -127,7 +106,7 @@ pub fn absorb(h: Hash, part: &[u8]) -> Hash
     let pending = h.pending;
     let used = (h.total % 64) as usize;
     let n = part.len();
-    let total = wrapping_add_u64(h.total, n as u64);
+    let total = h.total.wrapping_add(n as u64);
     let room = 64 - used;
     if n < room {
         let p = stashed(pending, used, part, 0, n);

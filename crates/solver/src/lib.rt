@@ -3,11 +3,15 @@
 #![tactic(auto)]
 
 ghost use Rattle.std.specs.Prelude.{◌≡◌};
+ghost use Rattle.rules.specs.Refusals.{answer_length, answer_row};
 ghost use Rattle.solver.specs.Exported.{built_of, space_after, checked_of};
+
+use rules::{Refusal, row_of};
 
 pub mod codec;
 
 // The builder's answer: row 0 and the frame's length, or the row and length 0.
+// Kept for the C interface: this struct and the next are what include/sievelast.h declares, where C has no Result.
 #[repr(C)]
 #[derive(Drop)]
 pub struct FrameBuilt {
@@ -24,6 +28,17 @@ pub struct ReplyChecked {
     pub length: u64,
 }
 
+impl From<Result<usize, Refusal>> for FrameBuilt {
+    ghost from_gives = { λ answer built. built ≡ record { row = answer_row answer; length = answer_length answer } };
+
+    fn from(answer: Result<usize, Refusal>) -> FrameBuilt {
+        FrameBuilt {
+            row: u64::from(row_of(answer)),
+            length: answer.unwrap_or(0) as u64,
+        }
+    }
+}
+
 // Writes a frame at the start of `space`, from credential, request and data, under the credential key.
 pub fn sievelast_build(
     credential: &[u8],
@@ -34,31 +49,23 @@ pub fn sievelast_build(
 ) -> FrameBuilt
     ensures { (result ≡ built_of credential.now request.now bytes.now key.now space.old) × (space.new ≡ space_after credential.now request.now bytes.now key.now space.old) }
 {
-    let b = client::build(credential, request, bytes, key, space);
-    FrameBuilt {
-        row: b.row as u64,
-        length: b.length as u64,
-    }
+    FrameBuilt::from(client::build(credential, request, bytes, key, space))
 }
 
 // Finds the result in a reply to that credential and request, under the credential key.
 pub fn sievelast_check(credential: &[u8], request: &[u8], key: &[u8], reply: &[u8]) -> ReplyChecked
     ensures { result ≡ checked_of credential.now request.now key.now reply.now }
 {
-    let mut row: u32 = 0;
-    let part = client::check(credential, request, key, reply, &mut row);
-    let length = part.len() as u64;
-    let found = row;
-    if found == 0 {
-        return ReplyChecked {
+    match client::check(credential, request, key, reply) {
+        Ok(part) => ReplyChecked {
             row: 0,
             start: reply_check::HEAD_SIZE as u64,
-            length,
-        };
-    }
-    ReplyChecked {
-        row: found as u64,
-        start: 0,
-        length: 0,
+            length: part.len() as u64,
+        },
+        Err(refusal) => ReplyChecked {
+            row: u64::from(refusal.row()),
+            start: 0,
+            length: 0,
+        },
     }
 }

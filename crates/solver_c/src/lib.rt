@@ -9,6 +9,7 @@ ghost use Rattle.solver.specs.Exported.{built_of, space_after, checked_of};
 
 use solver::{FrameBuilt, ReplyChecked, codec};
 
+// Kept for the C interface: the functions here hand on those of `solver` under C's names.
 // Writes a frame at the start of `space`, from credential, request and data, under the credential key.
 #[unsafe(no_mangle)]
 pub extern "C" fn sievelast_build(

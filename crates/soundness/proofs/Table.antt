@@ -1,6 +1,6 @@
 -- A table's columns are its objects' numbers, versions, sizes and starts; so its partition is sound where the tests of the
 -- columns pass.
-use Rattle.std.proofs.Common.{◌≡◌, ℕ, ◌+◌, ◌^◌, ◌<◌, ◌≤◌, min, Bool, true, ◌&&◌, leb, List, map, length, get_or, take, drop, sym, ap, ◌∙◌, arith, length-drop, length-take, get_or-drop, take_all, get_or-take, ext_get_or, eq-eqb}
+use Rattle.std.proofs.Common.{◌≡◌, ℕ, ◌+◌, ◌^◌, ◌<◌, ◌≤◌, min, Bool, true, ◌&&◌, leb, List, map, length, get_or, take, drop, sym, ap, ◌∙◌, arith, length-drop, take_all, eq-eqb}
 use mathlib.Core.Bool.{and_assoc}
 use native.Mathlib.Decide.{dec_le}
 use lib.ListN.{get_or-map}
@@ -12,53 +12,41 @@ use Rattle.rules.specs.declared.Object.{Object}
 use Rattle.rules.specs.Drive.{most_objects, sound_object, sound_partition, apart}
 use Rattle.rules.specs.Operations.{no_object}
 use Rattle.state.specs.Padded.{padded, padded_is, padded-length}
-use Rattle.state.specs.Table.{starts_from, sizes_from, versions_from, numbers_from, count_at, last_at, table_size, object_at, range, places, partition_view}
-use Rattle.state.specs.Places.{range_length, range_at, places-length}
+use Rattle.state.specs.Table.{starts_from, sizes_from, versions_from, numbers_from, count_at, last_at, table_size, places, partition_view}
+use Rattle.state.specs.Places.{places-length}
+use Rattle.state.specs.Columns.{column, numbers_are, versions_are, sizes_are, starts_are}
+use Rattle.std.specs.Simd.{first_chunks}
+use Rattle.std.proofs.Common.{refl, zero, suc, ◌*◌, ◌/◌, ◌-◌, drop-drop, not-suc-le-zero, le_of_suc-le-suc}
+use Rattle.std.proofs.lemmas.List.{take_rest}
 use Rattle.soundness.specs.Spans.{end_of, narrow, narrow_at, ends_of, sound_at, clear_at, each}
 use Rattle.soundness.proofs.Sound.{each-every, sound-each}
 use Rattle.soundness.proofs.Clear.{clear, clear-each, clear-pairs}
 
--- the n numbers of a list from place a on
-abbrev pub column : List ℕ → ℕ → ℕ → List ℕ
-column t a n = take n (drop a t)
+-- ---- the columns, as the code takes them: chunks of sixteen
+chunk_at : (n i : ℕ) (l d : List ℕ) → i < n → get_or (first_chunks most_objects n l) i d ≡ take most_objects (drop (most_objects * i) l)
+chunk_at zero i l d h = absurd (not-suc-le-zero h)
+chunk_at (suc n) zero l d h = refl
+chunk_at (suc n) (suc i) l d h =
+    let e : most_objects + most_objects * i ≡ most_objects * suc i = omega arith in
+    chunk_at n i (drop most_objects l) d (le_of_suc-le-suc h)
+    ∙ ap (take most_objects) (drop-drop (most_objects * i) most_objects l ∙ ap (λ (a : ℕ). drop a l) e)
 
-column_is : (t : List ℕ) (a n : ℕ) → a + n ≤ length t → column t a n ≡ map (λ (i : ℕ). get_or t (a + i) 0) (range 0 n)
-column_is t a n h = ext_get_or 0 (column t a n) (map f (range 0 n)) (long ∙ sym (range_length f 0 n)) same
-  where
-    f : ℕ → ℕ
-    f i = get_or t (a + i) 0
+abbrev pub behind : List ℕ → List ℕ
+behind t = take (length t - numbers_from) (drop numbers_from t)
 
-    long : length (column t a n) ≡ n
-    long = let d = length-drop a t in let k = length-take n (drop a t) in omega arith
-
-    same : (i : ℕ) → i < length (column t a n) → get_or (column t a n) i 0 ≡ get_or (map f (range 0 n)) i 0
-    same i m =
-        let z : 0 + i ≡ i = omega arith in
-        let k : i < n = omega (arith, long) in
-        get_or-take n (drop a t) i 0 k ∙ get_or-drop a t i 0 ∙ sym (range_at f 0 n i 0 k ∙ ap f z)
+pub column_at : (t : List ℕ) → length t ≡ table_size → (i : ℕ) (d : List ℕ) → i < 4
+    → get_or (first_chunks most_objects (length (behind t) / most_objects) (behind t)) i d
+    ≡ column t (numbers_from + most_objects * i) most_objects
+column_at t e i d h =
+    let n : length (drop numbers_from t) / most_objects ≡ 4 = omega (arith, length-drop numbers_from t) in
+    rw (take_rest t numbers_from, n) (chunk_at 4 i (drop numbers_from t) d h) ∙ ap (take most_objects) (drop-drop (most_objects * i) numbers_from t)
 
 module _ (t : List ℕ) (e : length t ≡ table_size) where
-  numbers_are : column t numbers_from most_objects ≡ map Object.number (places t)
-  unfolding places object_at
-  numbers_are = column_is t numbers_from most_objects (omega arith)
-
-  versions_are : column t versions_from most_objects ≡ map Object.version (places t)
-  unfolding places object_at
-  versions_are = column_is t versions_from most_objects (omega arith)
-
-  sizes_are : column t sizes_from most_objects ≡ map Object.size (places t)
-  unfolding places object_at
-  sizes_are = column_is t sizes_from most_objects (omega arith)
-
-  starts_are : column t starts_from most_objects ≡ map Object.start (places t)
-  unfolding places object_at
-  starts_are = column_is t starts_from most_objects (omega arith)
-
   ends_are : ends_of (column t starts_from most_objects) (column t sizes_from most_objects) ≡ map end_of (places t)
   unfolding ends_of places
   ends_are =
-      ap (λ (s : List ℕ). ends_of s (column t sizes_from most_objects)) starts_are
-      ∙ ap (ends_of (map Object.start (places t))) sizes_are
+      ap (λ (s : List ℕ). ends_of s (column t sizes_from most_objects)) (starts_are t e)
+      ∙ ap (ends_of (map Object.start (places t))) (sizes_are t e)
 
   narrow_are : each (narrow_at (column t sizes_from most_objects)) most_objects ≡ true → every narrow (places t) ≡ true
   narrow_are w =
@@ -68,7 +56,7 @@ module _ (t : List ℕ) (e : length t ≡ table_size) where
       λ i. ap (λ (z : ℕ). z under 2 ^ 32) (get_or-map Object.size (places t) i no_object) in
       ap (every narrow) (sym (take_all most_objects (places t) (omega arith)))
       ∙ sym (each-every (narrow_at sizes) narrow (places t) no_object same most_objects (omega arith))
-      ∙ ap (λ (s : List ℕ). each (narrow_at s) most_objects) (sym sizes_are)
+      ∙ ap (λ (s : List ℕ). each (narrow_at s) most_objects) (sym (sizes_are t e))
       ∙ w
 
 -- ---- a count within the places, and the tests of the places before it

@@ -2,6 +2,7 @@
 pub mod Padded
 pub mod Table
 pub mod Places
+pub mod Columns
 pub mod Changes
 pub mod Stores
 pub mod Steps

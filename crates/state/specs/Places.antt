@@ -1,34 +1,26 @@
 -- Laws of a table's places: how many there are, each of them, the objects in use, and a search among these; and of its
 -- operation table.
-use Rattle.std.specs.Prelude.{◌≡◌, refl, Bool, true, false, cond, List, map, ℕ, zero, suc, ◌+◌, ◌≤◌, ◌<◌, min, length, get_or, take}
-use Rattle.std.proofs.Common.{sym, ◌∙◌, not-suc-le-zero, le_of_suc-le-suc, arith, length-take, get_or-take, take_all, eqb-true, eq-eqb, ne_eqb}
+use Rattle.std.specs.Prelude.{◌≡◌, refl, Bool, true, false, cond, List, map, ℕ, zero, suc, ◌+◌, ◌≤◌, ◌<◌, min, length, get_or}
+use Rattle.std.proofs.Common.{sym, ◌∙◌, not-suc-le-zero, le_of_suc-le-suc, arith, length-take, get_or-take, eqb-true, eq-eqb}
 use Rattle.std.proofs.Math.Path.{ap}
 use Rattle.std.proofs.Math.Option.{none, some}
-use Rattle.std.proofs.Math.Seq.{take-length}
 use Rattle.lemmas.specs.Tests.{◌is◌}
-use Rattle.lemmas.specs.Lists.{find, missing}
-use Rattle.lemmas.specs.Loops.{find_hit, find_pass}
+use Rattle.lemmas.specs.Lists.{find}
+use Rattle.lemmas.specs.Options.{option_of}
+use Rattle.std.specs.Prelude.{not, ◌==◌, slice_get, Option, Some, None, [], ◌∷◌, position}
+use Rattle.std.specs.List.{position_or_len}
+use Rattle.std.proofs.lemmas.Option.{cond_some, slice_get_past}
+use Rattle.std.proofs.lemmas.List.{length-map}
+use Rattle.std.proofs.Math.Numerals.{one-add}
+use borrow.Author.Tests.{ltb-false}
+use Rattle.std.specs.Prelude.{nat_lt}
 use Rattle.rules.specs.declared.Need.{Need}
 use Rattle.rules.specs.declared.Object.{Object}
 use Rattle.rules.specs.Drive.{most_objects}
 use Rattle.rules.specs.Needs.{needs_count}
 use Rattle.rules.specs.Operations.{no_object}
 use Rattle.state.specs.Padded.{padded_is}
-use Rattle.state.specs.Table.{
-  count_at,
-  numbers_from,
-  table_size,
-  object_at,
-  range,
-  places,
-  count_in,
-  objects_in,
-  partition_in,
-  partition_view,
-  lookup_in,
-  need_in,
-  needs_in,
-}
+use Rattle.state.specs.Table.{count_at, table_size, object_at, range, places, count_in, objects_in, partition_in, partition_view, need_in, needs_in}
 
 -- ---- numbers in a row, mapped
 pub range_length : {A : Type 0} (f : ℕ → A) (a n : ℕ) → length (map f (range a n)) ≡ n
@@ -87,34 +79,35 @@ pub view_is : (t : List ℕ) → length t ≡ table_size → get_or t count_at 0
 unfolding partition_view partition_in objects_in
 view_is t e h = rw (padded_is most_objects no_object (get_or t count_at 0) (places t) h, count_is t e) refl
 
--- ---- a search by number that has come to place i
-module _ (t : List ℕ) (number i : ℕ) (more : i < length (objects_in t))
-    (none_yet : find Object.number number (take i (objects_in t)) ≡ none) where
-  number_at : (get_or (objects_in t) i no_object).number ≡ get_or t (numbers_from + i) 0
-  unfolding object_at
-  number_at = ap Object.number (objects_at t i more)
+-- ---- a search by number: the first place where it stands, and the object there
+module _ (n : ℕ) where
+  abbrev stands : ℕ → Bool
+  stands k = k == n
 
-  pub lookup_here : get_or t (numbers_from + i) 0 ≡ number
-      → lookup_in (objects_in t) number ≡ record { missing = false; object = get_or (objects_in t) i no_object }
-  unfolding lookup_in missing
-  lookup_here e = rw found
+  found_at : (xs : List Object) → option_of (slice_get xs (position_or_len stands (map Object.number xs))) ≡ find Object.number n xs
+  unfolding find
+  found_at [] = refl
+  found_at (x ∷ xs) = go (x.number == n) (found_at xs)
     where
-      found : find Object.number number (objects_in t) ≡ some (get_or (objects_in t) i no_object)
-      found =
-          ap (find Object.number number) (sym (take-length (objects_in t)))
-          ∙ find_hit Object.number number (objects_in t) i no_object (length (objects_in t)) more more none_yet
-          (eq-eqb (get_or (objects_in t) i no_object).number number (number_at ∙ e))
+      go : (b : Bool) → option_of (slice_get xs (position_or_len stands (map Object.number xs))) ≡ find Object.number n xs
+          → option_of (slice_get (x ∷ xs) (cond (not b) (1 + position_or_len stands (map Object.number xs)) 0))
+          ≡ cond b (some x) (find Object.number n xs)
+      go true ih = refl
+      go false ih = rw one-add ih
 
-  pub lookup_later : (get_or t (numbers_from + i) 0 ≡ number → ⊥) → find Object.number number (take (i + 1) (objects_in t)) ≡ none
-  lookup_later n =
-      find_pass Object.number number (objects_in t) i no_object more none_yet
-      (ne_eqb (get_or (objects_in t) i no_object).number number (λ e. n (sym number_at ∙ e)))
+  pub found : (xs : List Object) (i : ℕ) → Some i ≡ position stands (map Object.number xs)
+      → option_of (slice_get xs i) ≡ find Object.number n xs
+  found xs i e = rw (cond_some _ _ _ (sym e)).1 at (found_at xs)
 
-pub lookup_nowhere : (t : List ℕ) (number i : ℕ) → i ≡ length (objects_in t)
-    → find Object.number number (take i (objects_in t)) ≡ none
-    → lookup_in (objects_in t) number ≡ record { missing = true; object = no_object }
-unfolding lookup_in missing
-lookup_nowhere t number i e f =
-    let g : find Object.number number (objects_in t) ≡ none
-    = ap (find Object.number number) (sym (take_all i (objects_in t) (omega arith))) ∙ f in
-    rw g
+  pub missed : (xs : List Object) → None ≡ position stands (map Object.number xs) → none ≡ find Object.number n xs
+  missed xs e = go (nat_lt at (length within)) refl
+    where
+      within : List ℕ
+      within = map Object.number xs
+
+      at : ℕ
+      at = position_or_len stands within
+
+      go : (b : Bool) → nat_lt at (length within) ≡ b → none ≡ find Object.number n xs
+      go true h = let e' : None ≡ Some at = e ∙ rw h refl in cc
+      go false h = ap (λ (o : Option Object). option_of o) (sym (slice_get_past xs at (rw length-map at (ltb-false at (length within) h)))) ∙ found_at xs

@@ -27,7 +27,7 @@ use Rattle.state.specs.Table.{
   objects_in,
   partition_view,
 }
-use Rattle.state.specs.Places.{places-length, places_at, objects-length, objects_at, count_is}
+use Rattle.state.specs.Places.{places-length, places_at, objects-length, count_is}
 use Rattle.state.specs.Changes.{
   Content,
   content_of,
@@ -198,18 +198,13 @@ module _ (t u : List ℕ) (number i k : ℕ) (more : i < length (objects_in t))
   abbrev keeping_next : List Object
   keeping_next = keep passes (take (i + 1) (places t))
 
-  inside : (i < most_objects) × (i < length (places t)) × (i < length (objects_in u))
-  inside =
-      let same : count_in u ≡ count_in t = rw (b.long, ap Content.count b.says) refl in (
-        omega (arith, objects-length t),
-        omega (arith, objects-length t, places-length t),
-        omega (arith, objects-length t, objects-length u),
-      )
+  inside : (i < most_objects) × (i < length (places t))
+  inside = (omega (arith, objects-length t), omega (arith, objects-length t, places-length t))
 
   -- o, which the code read, is object i of t
-  module _ (o : Object) (q : o ≡ get_or (objects_in u) i no_object) where
+  module _ (o : Object) (q : o ≡ object_at u i) where
     is_it : get_or (places t) i no_object ≡ o
-    is_it = sym (q ∙ objects_at u i inside.2 ∙ sym (places_at u i inside.0)
+    is_it = sym (q ∙ sym (places_at u i inside.0)
         ∙ kept_at passes (places t) (places u) i k no_object inside.1 (ap Content.objects b.says) e)
 
     -- it is kept: it was stored at place k

@@ -1,15 +1,12 @@
 -- Document 01, "Drive state": a partition's table, a list of numbers, as the rules see it. t: a table.
 use Rattle.std.specs.Prelude.{cond, List, [], ◌∷◌, map, ℕ, zero, suc, ◌+◌, length, get_or, take}
-use Rattle.std.proofs.Math.Option
 use Rattle.lemmas.specs.Tests.{◌is◌}
-use Rattle.lemmas.specs.Lists.{find, missing}
 use Rattle.rules.specs.declared.Object.{Object}
 use Rattle.rules.specs.declared.Need.{Need}
 use Rattle.rules.specs.Drive as rules
 use Rattle.rules.specs.Drive.{most_objects}
 use Rattle.rules.specs.Needs.{needs_count}
 use Rattle.rules.specs.Operations.{no_object}
-use Rattle.state.specs.declared.Lookup.{Lookup}
 use Rattle.state.specs.Padded.{padded}
 
 -- the places of the partition's version, of the last version given, and of the count of objects
@@ -92,11 +89,4 @@ partition_view t = record {
   last = get_or t last_at 0;
   needs = needs_in t;
   objects = padded most_objects no_object (get_or t count_at 0) (places t);
-}
-
--- what a number names among the objects l
-unfoldable pub lookup_in : List Object → ℕ → Lookup
-lookup_in l n = record {
-  missing = missing (find Object.number n l);
-  object = Option.get_or (find Object.number n l) no_object;
 }

@@ -3,18 +3,21 @@
 // operations 1 to 7, the masks and the least levels of its operation table (document 02, change 5).
 // Everything is total: a list of another length holds no object and is never changed, and a count over sixteen is taken
 // for sixteen.
+// Kept for the C interface: the caller lends a table as an array of numbers (include/sievelast_store.h), so an object is four numbers
+// in four columns there and no struct, and the loops below go over places.
 #![tactic(auto)]
 
-ghost use Rattle.std.specs.Prelude.{◌≡◌, ◌≤◌, ◌<◌, length, get_or};
-ghost use Rattle.lemmas.specs.Lists.{change};
+ghost use Rattle.std.specs.Prelude.{◌≡◌, ◌+◌, ◌≤◌, ◌<◌, length, map, get_or, slice_get, ◌==◌, position};
+ghost use Rattle.lemmas.specs.Lists.{change, find};
+ghost use Rattle.lemmas.specs.Options.{option_of};
 ghost use Rattle.rules.specs.declared.Object.{Object};
 ghost use Rattle.rules.specs.Drive.{most_objects};
 ghost use Rattle.rules.specs.Needs.{default_needs, needs_at, needs_count};
 ghost use Rattle.rules.specs.Operations.{no_object, with_version};
-ghost use Rattle.state.specs.Table.{table_size, objects_in, lookup_in};
+ghost use Rattle.state.specs.Table.{table_size, object_at, objects_in};
+ghost use Rattle.state.specs.Columns.{front};
 ghost use Rattle.state.specs.Changes.{HasContent, ChangedTo, content_with_front, content_with_object, raised_content, created_content, deleted_content, content_with_needs, content_with_need, emptied_content};
 
-use lemmas::smaller;
 use needs::TABLE_OPERATIONS;
 use rules::{MOST_OBJECTS, Need, Object};
 
@@ -40,13 +43,6 @@ pub const LEASTS: usize = MASKS + TABLE_OPERATIONS;
 // How many numbers a table has.
 pub const TABLE: usize = LEASTS + TABLE_OPERATIONS;
 
-// The object that has a number; `missing` where there is none, and then the object is all zeros.
-#[derive(Clone, Copy)]
-pub struct Lookup {
-    pub missing: bool,
-    pub object: Object,
-}
-
 // How many objects there are.
 pub fn object_count(table: &[u32]) -> usize
     ensures { (result ≡ length (objects_in table.now)) × (result ≤ most_objects) }
@@ -54,21 +50,51 @@ pub fn object_count(table: &[u32]) -> usize
     if table.len() != TABLE {
         return 0;
     }
-    smaller(table[COUNT] as usize, MOST_OBJECTS)
+    (table[COUNT] as usize).min(MOST_OBJECTS)
 }
 
-// The object at a place; past the last, all zeros.
-pub fn object_at(table: &[u32], i: usize) -> Object
-    ensures { result ≡ get_or (objects_in table.now) i no_object }
+// The numbers from a place on, one for each object in use.
+fn front(table: &[u32], from: usize) -> &[u32]
+    requires { from + most_objects ≤ table_size }
+    ensures { result.now ≡ front table.now from }
 {
-    if object_count(table) <= i {
-        return Object {
-            number: 0,
-            version: 0,
-            size: 0,
-            start: 0,
-        };
+    let n = object_count(table);
+    if n == 0 {
+        return &[];
     }
+    &table[from..from + n]
+}
+
+// The objects' numbers, in order of creation.
+#[tactic(auto, using(crate::specs::Columns::front_numbers))]
+pub fn numbers(table: &[u32]) -> &[u32]
+    ensures { result.now ≡ map Object.number (objects_in table.now) }
+{
+    front(table, NUMBERS)
+}
+
+// Their sizes.
+#[tactic(auto, using(crate::specs::Columns::front_sizes))]
+pub fn sizes(table: &[u32]) -> &[u32]
+    ensures { result.now ≡ map Object.size (objects_in table.now) }
+{
+    front(table, SIZES)
+}
+
+// Where their extents start.
+#[tactic(auto, using(crate::specs::Columns::front_starts))]
+pub fn starts(table: &[u32]) -> &[u32]
+    ensures { result.now ≡ map Object.start (objects_in table.now) }
+{
+    front(table, STARTS)
+}
+
+// The object at a place, in use or not.
+#[tactic(auto, unfolding(crate::specs::Table::object_at))]
+fn read(table: &[u32], i: usize) -> Object
+    requires { (length table.now ≡ table_size) × (i < most_objects) }
+    ensures { result ≡ object_at table.now i }
+{
     Object {
         number: table[NUMBERS + i],
         version: table[VERSIONS + i],
@@ -77,33 +103,45 @@ pub fn object_at(table: &[u32], i: usize) -> Object
     }
 }
 
-// The object with a number.
-pub fn look_up(table: &[u32], number: u32) -> Lookup
-    ensures { result ≡ lookup_in (objects_in table.now) number }
+// The object at a place; none past the last.
+pub fn object(table: &[u32], i: usize) -> Option<Object>
+    ensures { result ≡ slice_get (objects_in table.now) i }
 {
-    let n = object_count(table);
-    let mut i = 0;
-    while i < n {
-        if table[NUMBERS + i] == number {
-            return Lookup {
-                missing: false,
-                object: object_at(table, i),
-            };
-        }
-        i += 1;
+    if object_count(table) <= i {
+        return None;
     }
-    let nothing = Object {
+    Some(read(table, i))
+}
+
+// The object at a place; past the last, all zeros.
+// Kept for what may not change: a public function that cannot fail, whose clause has zeros past the last (no_object, rules).
+pub fn object_at(table: &[u32], i: usize) -> Object
+    ensures { result ≡ get_or (objects_in table.now) i no_object }
+{
+    object(table, i).unwrap_or(Object {
         number: 0,
         version: 0,
         size: 0,
         start: 0,
-    };
-    Lookup {
-        missing: true,
-        object: nothing,
-    }
+    })
 }
 
+// The place of the first object with a number.
+fn place_of(table: &[u32], number: u32) -> Option<usize>
+    ensures { result ≡ position (λ n. n == number) (map Object.number (objects_in table.now)) }
+{
+    numbers(table).iter().position(|n| *n == number)
+}
+
+// The object with a number.
+pub fn look_up(table: &[u32], number: u32) -> Option<Object>
+    ensures { option_of result ≡ find Object.number number (objects_in table.now) }
+{
+    object(table, place_of(table, number)?)
+}
+
+// Kept, the new form is no plainer: here and below a slice with its length required, and not an array of that length. A public function
+// is lent a slice and looks at its length; to hand on an array it would take one out of the slice and say what became of it there.
 // Stores an object at a place.
 fn put(table: &mut [u32], i: usize, o: Object)
     requires { (length table.old ≡ table_size) × (i < most_objects) }
@@ -122,13 +160,9 @@ fn renew(table: &mut [u32], number: u32, version: u32)
         (content_with_front (change Object.number number (with_version version) (objects_in table.old))
         table.old) }
 {
-    let n = object_count(&*table);
-    let mut i = 0;
-    while i < n {
-        let at = i;
-        i += 1;
-        if table[NUMBERS + at] == number {
-            table[VERSIONS + at] = version;
+    for i in 0..object_count(&*table) {
+        if table[NUMBERS + i] == number {
+            table[VERSIONS + i] = version;
         }
     }
 }
@@ -174,10 +208,8 @@ pub fn delete(table: &mut [u32], number: u32)
     }
     let n = object_count(&*table);
     let mut left = 0;
-    let mut i = 0;
-    while i < n {
-        let o = object_at(&*table, i);
-        i += 1;
+    for i in 0..n {
+        let o = read(&*table, i);
         if o.number != number {
             put(table, left, o);
             left += 1;
@@ -203,11 +235,8 @@ pub fn load(table: &mut [u32], bytes: &[u8])
     if table.len() != TABLE {
         return;
     }
-    let mut i = 0;
-    while i < TABLE_OPERATIONS {
-        let n = needs::need_at(bytes, i + 1);
-        put_need(table, i, n);
-        i += 1;
+    for i in 0..TABLE_OPERATIONS {
+        put_need(table, i, needs::need_at(bytes, i + 1));
     }
 }
 
@@ -216,11 +245,8 @@ fn put_defaults(table: &mut [u32])
     requires { length table.old ≡ table_size }
     ensures { HasContent table.old table.new (content_with_needs default_needs table.old) }
 {
-    let mut i = 0;
-    while i < TABLE_OPERATIONS {
-        let n = needs::default_need((i + 1) as u8);
-        put_need(table, i, n);
-        i += 1;
+    for i in 0..TABLE_OPERATIONS {
+        put_need(table, i, needs::default_need((i + 1) as u8));
     }
 }
 

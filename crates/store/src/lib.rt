@@ -5,18 +5,22 @@
 ghost use Rattle.std.specs.Prelude.{◌≡◌};
 ghost use Rattle.drive.specs.Met.{call_of, FormatMet, GateMet};
 ghost use Rattle.drive.specs.Lent.{record_of, answer_with, formatted_with};
-ghost use Rattle.digest.specs.Digest.{hmac_answer};
+ghost use Rattle.digest.specs.Digest.{digest_of, hmac_answer};
+ghost use Rattle.rules.specs.Refusals.{answer_length, answer_row};
 ghost use Rattle.records.specs.Coding.{credential_from};
+ghost use Rattle.client.specs.Answers.{issued_of};
 ghost use Rattle.client.specs.Met.{IssueMet};
 ghost use Rattle.store.specs.Exported.{issued_with, digest_with};
 
+use digest::TooLong;
 use drive::TABLES;
 use keyring::KEYS;
 use memory::{ENTRIES, MEMORIES, PLACES};
 use records::CredentialFields;
-use rules::{DIGEST_SIZE, KEY_SIZE};
+use rules::{DIGEST_SIZE, KEY_SIZE, Refusal, row_of};
 
 // The gate's answer: row 0 and the reply's length, or the row and length 0.
+// Kept for the C interface: this struct and the next two are what include/sievelast_store.h declares, where C has no Result.
 #[repr(C)]
 #[derive(Drop)]
 pub struct FrameAnswered {
@@ -40,7 +44,44 @@ pub struct KeyedDigest {
     pub bytes: [u8; DIGEST_SIZE],
 }
 
+impl From<Result<usize, Refusal>> for FrameAnswered {
+    ghost from_gives = { λ reply answered. answered ≡ record { row = answer_row reply; length = answer_length reply } };
+
+    fn from(reply: Result<usize, Refusal>) -> FrameAnswered {
+        FrameAnswered {
+            row: u64::from(row_of(reply)),
+            length: reply.unwrap_or(0) as u64,
+        }
+    }
+}
+
+impl From<Result<[u8; KEY_SIZE], Refusal>> for CredentialIssued {
+    ghost from_gives = { λ key issued. issued_with issued.row issued.key ≡ issued_of key };
+
+    fn from(key: Result<[u8; KEY_SIZE], Refusal>) -> CredentialIssued {
+        CredentialIssued {
+            row: u64::from(row_of(key)),
+            key: key.unwrap_or([0; KEY_SIZE]),
+        }
+    }
+}
+
+impl From<Result<[u8; DIGEST_SIZE], TooLong>> for KeyedDigest {
+    ghost from_gives = { λ digest keyed. digest_with keyed.row keyed.bytes ≡ digest_of digest };
+
+    fn from(digest: Result<[u8; DIGEST_SIZE], TooLong>) -> KeyedDigest {
+        match digest {
+            Ok(bytes) => KeyedDigest { row: 0, bytes },
+            Err(_) => KeyedDigest {
+                row: u64::from(Refusal::TooLong.row()),
+                bytes: [0; DIGEST_SIZE],
+            },
+        }
+    }
+}
+
 // Makes a medium a drive's, and these parts its record; refused, they are the record of a drive that has nothing.
+// Kept for the C interface: here and in the gate the record's parts are lent one by one, as include/sievelast_store.h passes them.
 pub fn sievelast_format_parts(
     size: &mut usize,
     highwater: &mut u64,
@@ -71,7 +112,7 @@ pub fn sievelast_format_parts(
     *entries = e;
     let at = d.times;
     *times = at;
-    f.row as u64
+    u64::from(row_of(f.answer))
 }
 
 // Puts a frame to the drive of these parts at a clock reading.
@@ -93,13 +134,9 @@ pub fn sievelast_gate_parts(
         (answer_with result.row result.length (record_of size highwater.new keys.new tables.new lengths.new entries.new times.new))
         medium.new reply.new }
 {
-    let v = drive::lent::gate(
+    FrameAnswered::from(drive::lent::gate(
         size, highwater, keys, tables, lengths, entries, times, medium, frame, clock, reply,
-    );
-    FrameAnswered {
-        row: v.row as u64,
-        length: v.length as u64,
-    }
+    ))
 }
 
 // Writes the 36 bytes of a credential at the start of `space` and returns its key.
@@ -107,22 +144,12 @@ pub fn sievelast_issue(fields: CredentialFields, key: &[u8], space: &mut [u8]) -
     ensures { IssueMet (credential_from fields) key.now space.old (issued_with result.row result.key) space.new }
 {
     let c = records::credential_from(fields);
-    let i = client::issue(c, key, space);
-    let secret = i.key;
-    CredentialIssued {
-        row: i.row as u64,
-        key: secret,
-    }
+    CredentialIssued::from(client::issue(c, key, space))
 }
 
 // HMAC, for whoever sets keys: a new key is the HMAC of request and seed under the signing slot's key.
 pub fn sievelast_hmac(key: &[u8], message: &[u8]) -> KeyedDigest
     ensures { digest_with result.row result.bytes ≡ hmac_answer key.now message.now }
 {
-    let d = digest::hmac(key, message);
-    let bytes = d.bytes;
-    KeyedDigest {
-        row: d.row as u64,
-        bytes,
-    }
+    KeyedDigest::from(digest::hmac(key, message))
 }

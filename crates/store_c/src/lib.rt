@@ -16,6 +16,7 @@ use memory::{ENTRIES, MEMORIES, PLACES};
 use records::CredentialFields;
 use store::{CredentialIssued, FrameAnswered, KeyedDigest};
 
+// Kept for the C interface: the functions here hand on those of `store` under C's names, the record's parts one by one.
 // Makes a medium a drive's, and these parts its record; refused, they are the record of a drive that has nothing.
 #[unsafe(no_mangle)]
 pub extern "C" fn sievelast_format_parts(

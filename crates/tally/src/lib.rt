@@ -9,6 +9,7 @@ ghost use Rattle.tally.specs.Tally.{no_counter, Counted, counter_text, CountersP
 // Partitions 0 to 3, and then none: the place of the calls that rows 1 to 4 refused.
 const PLACES: usize = 5;
 
+// Kept for what may not change: rules' report numbers the places and has 4 for none (Report: place_name, place_of).
 const NONE: usize = 4;
 // The rows of a place, from 0.
 const ROWS: usize = 42;
@@ -51,16 +52,15 @@ fn no_counter(len: usize, place: usize, row: usize) -> bool
     (len != COUNTERS) | (place > NONE) | (row >= ROWS)
 }
 
+// Kept, the new form is no plainer: here and below a space and a place in it, as `lines` has them.
 // Writes a line for each counter that is not 0, in order, into space from place `at` on, and returns the place after
 // the last; a line that does not fit is left out.
 pub fn put_counts(counters: &[u64], space: &mut [u8], at: usize) -> usize
     ensures { CountersPut counters.now space.old at result space.new }
 {
     let mut end = at;
-    let mut i: usize = 0;
-    while i < counters.len() {
-        end = put_counter(space, end, i, counters[i]);
-        i += 1;
+    for (i, n) in counters.iter().enumerate() {
+        end = put_counter(space, end, i, *n);
     }
     end
 }

@@ -1,7 +1,7 @@
 -- Document 01, "Request, 28 bytes, and frame": "Parsing answers with the fields or with a row". What an answer says,
 -- and what a frame's answer has to say.
 -- f: the frame. c, r: the numbers of its credential and request. p: an answer, request: its parsed request.
-use Rattle.std.specs.Prelude.{◌≡◌, ◌⊎◌, cond, false, List, ℕ, ◌≤◌}
+use Rattle.std.specs.Prelude.{◌≡◌, ◌⊎◌, cond, false, List, ℕ, ◌≤◌, Option, Some, None, Result, Ok, Err}
 use Rattle.lemmas.specs.Tests.{◌is◌}
 use Rattle.lemmas.specs.RowTable.{first_row}
 use Rattle.rules.specs.declared.Credential.{Credential}
@@ -9,15 +9,14 @@ use Rattle.rules.specs.declared.Request.{Request}
 use Rattle.rules.specs.declared.PartStarts.{PartStarts}
 use Rattle.rules.specs.Frame.{fields, group_magic, is_group_request, part_starts, request_magic, starts_behind}
 use Rattle.rules.specs.Rows.{frame_rows}
+use Rattle.rules.specs.Refusals.{refusal_row}
+use Rattle.rules.specs.declared.refusal.Refusal.{Refusal}
 use Rattle.record_rows.specs.Refusals.{record_row}
 use Rattle.rules.specs.declared.Operation.{Operation}
 use Rattle.rules.specs.declared.Operation.TheVariants.{Read, Write, Look, Raise, Create, Delete, SetKey, LoadTable}
 use Rattle.wire.specs.declared.OperationNumbers.{OperationNumbers}
-use Rattle.wire.specs.declared.Reach.{Reach}
-use Rattle.wire.specs.declared.Reach.TheVariants.{Own, Member}
 use Rattle.wire.specs.declared.ParsedRequest.{ParsedRequest}
 use Rattle.wire.specs.declared.Parsed.{Parsed}
-use Rattle.wire.specs.declared.Parsed.TheVariants.{Fields, Refused}
 
 -- ---- an operation's numbers, "1–7" and with change 5 of document 02 also 8, A and B; 0 for an argument that it does
 -- not carry
@@ -40,19 +39,20 @@ first_number o = (operation_numbers o).a
 abbrev pub second_number : Operation → ℕ
 second_number o = (operation_numbers o).b
 
--- ---- what it reaches, as a request's mark and member: 4C 52, or 4C 47 "and the member's number"
-abbrev pub reach_magic : Reach → ℕ
-reach_magic Own = request_magic
-reach_magic (Member number) = group_magic
+-- ---- what it reaches, its credential's own object or the member that it names, as a request's mark and member: 4C 52, or 4C 47
+-- "and the member's number"
+abbrev pub reach_magic : Option ℕ → ℕ
+reach_magic None = request_magic
+reach_magic (Some number) = group_magic
 
-abbrev pub reach_member : Reach → ℕ
-reach_member Own = 0
-reach_member (Member number) = number
+abbrev pub reach_member : Option ℕ → ℕ
+reach_member None = 0
+reach_member (Some number) = number
 
 -- a parsed request's numbers
 unfoldable pub numbers_of : ParsedRequest → Request
 numbers_of request = record {
-  magic = reach_magic request.reach;
+  magic = reach_magic request.member;
   operation = operation_number request.operation;
   level = request.level;
   time = request.time;
@@ -60,7 +60,7 @@ numbers_of request = record {
   A = first_number request.operation;
   B = second_number request.operation;
   n = request.n;
-  member = reach_member request.reach;
+  member = reach_member request.member;
 }
 
 -- ---- what an answer says: a row's number, or the numbers of credential and request and where the parts start
@@ -68,14 +68,9 @@ pub data ParseAnswer : Type 0 where
   refused_by : ℕ → ParseAnswer
   fields_of : Credential → Request → PartStarts → ParseAnswer
 
-abbrev pub answer_of : Parsed → ParseAnswer
-answer_of (Refused row) = refused_by row
-answer_of (Fields c request) = fields_of c (numbers_of request) request.starts
-
--- its row, 0 with fields
-abbrev pub answer_row : Parsed → ℕ
-answer_row (Refused row) = row
-answer_row (Fields c request) = 0
+abbrev pub answer_of : Result Parsed Refusal → ParseAnswer
+answer_of (Err refusal) = refused_by (refusal_row refusal)
+answer_of (Ok p) = fields_of p.credential (numbers_of p.request) p.request.starts
 
 -- ---- what a frame's answer has to say: the lowest of rows 2 to 6 that applies, or the fields
 unfoldable pub answer_by : ℕ → Credential → Request → PartStarts → ParseAnswer

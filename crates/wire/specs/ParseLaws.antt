@@ -1,9 +1,10 @@
--- Laws of the parse's answer. For a caller: what each arm of
--- `let Parsed::Fields(c, request) = parse(f) else ..` knows.
-use Rattle.std.specs.Prelude.{◌≡◌, ◌⊎◌, Bool, true, not, ◌||◌, cond, List, ℕ, ◌≤◌, ◌<◌, length}
+-- Laws of the parse's answer. For a caller: what each arm of `let Ok(p) = parse(f) else ..` knows.
+use Rattle.std.specs.Prelude.{◌≡◌, ◌⊎◌, Bool, true, not, ◌||◌, cond, List, ℕ, ◌≤◌, ◌<◌, length, Option, Result, Ok, Err}
 use Rattle.std.proofs.Math.Path.{refl}
 use Rattle.std.proofs.Common.{sym, ◌∙◌, inl, inr, true≢false}
 use Rattle.std.proofs.Math.Bool.{false}
+use Rattle.std.specs.Result.{IsErrAnd}
+use Rattle.std.proofs.lemmas.Result.{err_from_is_err_and}
 use borrow.Author.Tests.{ltb-false, eqb-true, eqb-false, lt-ltb, le-ltb, not-false}
 use Rattle.lemmas.specs.Tests.{◌is◌, ◌isnt◌, and_rest_false, or_cases, or_l, or_r, none_of}
 use Rattle.lemmas.specs.Lists.{every}
@@ -26,10 +27,9 @@ use Rattle.rules.specs.Frame.{
 use Rattle.rules.specs.Rows.{least_frame, row6, outside_credential, request_faults, outside_request, misfits, frame_rows, wrong_data}
 use Rattle.record_rows.specs.Refusals.{other_length, record_row, record_rows}
 use Rattle.rules.specs.declared.Operation.{Operation}
-use Rattle.wire.specs.declared.Reach.{Reach}
-use Rattle.wire.specs.declared.ParsedRequest.{ParsedRequest}
 use Rattle.wire.specs.declared.Parsed.{Parsed}
-use Rattle.wire.specs.declared.Parsed.TheVariants.{Fields, Refused}
+use Rattle.rules.specs.declared.refusal.Refusal.{Refusal}
+use Rattle.rules.specs.Refusals.{answer_row, refusal_row}
 use Rattle.wire.specs.Parse.{
   operation_number,
   first_number,
@@ -40,7 +40,6 @@ use Rattle.wire.specs.Parse.{
   refused_by,
   fields_of,
   answer_of,
-  answer_row,
   answer_by,
   frame_row,
   frame_answer,
@@ -52,35 +51,36 @@ use Rattle.wire.specs.Parse.{
 
 -- ---- for a caller
 -- fields: no row from 2 to 6 applies, and they are the frame's
-pub answered-fields : (f : List ℕ) (c : Credential) (request : ParsedRequest)
-    → answer_of (Fields c request) ≡ frame_answer f
-    → (frame_row f ≡ 0) × (c ≡ (fields f).cred) × (numbers_of request ≡ (fields f).req) × (request.starts ≡ part_starts f)
+pub answered-fields : (f : List ℕ) (p : Parsed) → answer_of (Ok p) ≡ frame_answer f
+    → (frame_row f ≡ 0) × (p.credential ≡ (fields f).cred) × (numbers_of p.request ≡ (fields f).req)
+    × (p.request.starts ≡ part_starts f)
 unfolding frame_answer answer_by
-answered-fields f c request e = go (frame_row f is 0) refl e
+answered-fields f p e = go (frame_row f is 0) refl e
   where
     go : (b : Bool) → (frame_row f is 0) ≡ b
-        → fields_of c (numbers_of request) request.starts
+        → fields_of p.credential (numbers_of p.request) p.request.starts
         ≡ cond b (fields_of (fields f).cred (fields f).req (part_starts f)) (refused_by (frame_row f))
-        → (frame_row f ≡ 0) × (c ≡ (fields f).cred) × (numbers_of request ≡ (fields f).req) × (request.starts ≡ part_starts f)
+        → (frame_row f ≡ 0) × (p.credential ≡ (fields f).cred) × (numbers_of p.request ≡ (fields f).req)
+        × (p.request.starts ≡ part_starts f)
     go true z e = (eqb-true (frame_row f) 0 z, cc, cc, cc)
     go false z e = (cc, cc, cc, cc)
 
--- a row: it is the frame's, and not 0
-pub answered-refused : (f : List ℕ) (row : ℕ) → answer_of (Refused row) ≡ frame_answer f
-    → (row ≡ frame_row f) × (row ≡ 0 → ⊥)
+-- a refusal: its row is the frame's, and not 0
+pub answered-refused : (f : List ℕ) (refusal : Refusal) → answer_of (Err refusal) ≡ frame_answer f
+    → (refusal_row refusal ≡ frame_row f) × (refusal_row refusal ≡ 0 → ⊥)
 unfolding frame_answer answer_by
-answered-refused f row e = go (frame_row f is 0) refl e
+answered-refused f refusal e = go (refusal_row refusal) (frame_row f is 0) refl e
   where
-    go : (b : Bool) → (frame_row f is 0) ≡ b
+    go : (row : ℕ) (b : Bool) → (frame_row f is 0) ≡ b
         → refused_by row ≡ cond b (fields_of (fields f).cred (fields f).req (part_starts f)) (refused_by (frame_row f))
         → (row ≡ frame_row f) × (row ≡ 0 → ⊥)
-    go true z e = (cc, λ h. let no : true ≡ false = cc in absurd (true≢false no))
-    go false z e = let r : row ≡ frame_row f = cc in (r, λ h. eqb-false (frame_row f) 0 z (sym r ∙ h))
+    go row true z e = (cc, λ h. let no : true ≡ false = cc in absurd (true≢false no))
+    go row false z e = let r : row ≡ frame_row f = cc in (r, λ h. eqb-false (frame_row f) 0 z (sym r ∙ h))
 
 -- either way, `row_of` gives the frame's row
-pub answered-row : (f : List ℕ) (p : Parsed) → answer_of p ≡ frame_answer f → answer_row p ≡ frame_row f
-answered-row f (Refused row) e = (answered-refused f row e).0
-answered-row f (Fields c request) e = sym (answered-fields f c request e).0
+pub answered-row : (f : List ℕ) (p : Result Parsed Refusal) → answer_of p ≡ frame_answer f → answer_row p ≡ frame_row f
+answered-row f (Err refusal) e = (answered-refused f refusal e).0
+answered-row f (Ok p) e = sym (answered-fields f p e).0
 
 -- ---- for the parse itself: a short frame, and one with room for credential and request
 pub answered_short : (f : List ℕ) → length f < least_frame → frame_answer f ≡ refused_by 2
@@ -91,6 +91,11 @@ pub answered_long : (f : List ℕ) → least_frame ≤ length f
     → frame_answer f ≡ records_answer (credential_at f 0) (frame_request f) (request_start f) (length f)
 unfolding frame_answer records_answer frame_row record_row frame_rows first_row fields
 answered_long f h = rw (le-ltb (length f) least_frame h)
+
+-- a refusal that is handed on is the answer
+pub answered_by : (a : Result Parsed Refusal) (refusal : Refusal) → IsErrAnd a (λ e. e ≡ refusal)
+    → answer_of a ≡ refused_by (refusal_row refusal)
+answered_by a refusal h = let p = err_from_is_err_and a h in rw (p.1, p.2) refl
 
 both_zero : (a b : ℕ) → (a isnt 0 || b isnt 0) ≡ false → (a ≡ 0) × (b ≡ 0)
 both_zero a b e = (
@@ -171,11 +176,11 @@ module _ (c : Credential) (r : Request) (at len : ℕ) (clear : record_row c r a
   }
 
   -- and neither does the parsed request
-  pub numbers_kept : (o : Operation) (x : Reach) (starts : PartStarts) → operation_number o ≡ r.operation
+  pub numbers_kept : (o : Operation) (x : Option ℕ) (starts : PartStarts) → operation_number o ≡ r.operation
       → first_number o ≡ r.A → second_number o ≡ r.B → reach_magic x ≡ r.magic → reach_member x ≡ r.member
       → numbers_of (record {
         operation = o;
-        reach = x;
+        member = x;
         level = r.level;
         time = r.time;
         count = r.count;

@@ -3,32 +3,33 @@
 
 ghost use Rattle.std.specs.Prelude.{◌≡◌};
 ghost use Rattle.rules.specs.Frame.{target_of};
-ghost use Rattle.wire.specs.Parse.{operation_numbers, reach_magic, reach_member, numbers_of, answer_of, answer_row, frame_answer};
+ghost use Rattle.wire.specs.Parse.{operation_numbers, reach_magic, numbers_of, answer_of, frame_answer};
 
-use rules::Operation;
+use reader::Reader;
+use rules::{Operation, Refusal, refuse};
 
 mod outcome;
 mod reader;
 
-// Whose bytes a request reads, writes or looks at: those of the credential's own object, or those of a member, of this number, of
-// the group that the credential names (document 02, change 6).
-#[derive(Clone, Copy)]
-pub enum Reach {
-    Own,
-    Member(u32),
-}
-
 // A request that no row from 3 to 6 refuses. Its nonce is time and count; n is the data's length; starts tells where it, its data
-// and the digest start in the frame.
+// and the digest start in the frame. It reads, writes or looks at the bytes of `member`, of the group that the credential names
+// (document 02, change 6), or at those of the credential's own object where it names none.
 #[derive(Clone, Copy)]
 pub struct ParsedRequest {
     pub operation: Operation,
-    pub reach: Reach,
+    pub member: Option<u32>,
     pub level: u8,
     pub time: u64,
     pub count: u32,
     pub n: u32,
     pub starts: rules::PartStarts,
+}
+
+// The fields of a frame that no row from 2 to 6 refuses: those of its credential and of its request.
+#[derive(Clone, Copy)]
+pub struct Parsed {
+    pub credential: rules::Credential,
+    pub request: ParsedRequest,
 }
 
 // An operation's number in document 01, its A and its B.
@@ -39,84 +40,49 @@ struct OperationNumbers {
     b: u32,
 }
 
-// The answer of the parse: the fields of credential and request, or the row that refuses the frame.
-#[derive(Clone, Copy)]
-pub enum Parsed {
-    Fields(rules::Credential, ParsedRequest),
-    Refused(u32),
-}
-
 // Rows 2 to 6, or the fields.
-pub fn parse(frame: &[u8]) -> Parsed
+pub fn parse(frame: &[u8]) -> Result<Parsed, Refusal>
     ensures { answer_of result ≡ frame_answer frame.now }
 {
-    if frame.len() < fields::LEAST_FRAME {
-        return Parsed::Refused(2);
-    }
-    reader::walk(frame)
-}
-
-// An answer's row, 0 with fields.
-pub fn row_of(p: Parsed) -> u32
-    ensures { result ≡ answer_row p }
-{
-    match p {
-        Parsed::Fields(_, _) => 0,
-        Parsed::Refused(row) => row,
-    }
-}
-
-// An operation's number with its A and B.
-fn numbered(operation: u8, a: u32, b: u32) -> OperationNumbers
-    ensures { result ≡ record { operation = operation; a = a; b = b } }
-{
-    OperationNumbers { operation, a, b }
+    refuse(frame.len() < fields::LEAST_FRAME, Refusal::ShortFrame)?;
+    Reader::new(frame).walk()
 }
 
 // The numbers of an operation: the documents' own, and A and B, 0 where the operation carries none.
 fn operation_numbers(o: Operation) -> OperationNumbers
     ensures { result ≡ operation_numbers o }
 {
-    match o {
-        Operation::Read { offset, length } => numbered(1, offset, length),
-        Operation::Write { offset, length } => numbered(2, offset, length),
-        Operation::Look => numbered(3, 0, 0),
-        Operation::Raise => numbered(4, 0, 0),
-        Operation::Create { number, size } => numbered(5, number, size),
-        Operation::Delete => numbered(6, 0, 0),
-        Operation::SetKey { target } => numbered(7, target, 0),
-        Operation::LoadTable => numbered(8, 0, 0),
-    }
+    let (operation, a, b) = match o {
+        Operation::Read { offset, length } => (1, offset, length),
+        Operation::Write { offset, length } => (2, offset, length),
+        Operation::Look => (3, 0, 0),
+        Operation::Raise => (4, 0, 0),
+        Operation::Create { number, size } => (5, number, size),
+        Operation::Delete => (6, 0, 0),
+        Operation::SetKey { target } => (7, target, 0),
+        Operation::LoadTable => (8, 0, 0),
+    };
+    OperationNumbers { operation, a, b }
 }
 
-// The mark of a request that reaches so, and the member that it names, 0 where it names none.
-fn reach_magic(reach: Reach) -> u16
-    ensures { result ≡ reach_magic reach }
+// The mark of a request that names this member, or none.
+fn reach_magic(member: Option<u32>) -> u16
+    ensures { result ≡ reach_magic member }
 {
-    match reach {
-        Reach::Own => fields::REQUEST_MAGIC,
-        Reach::Member(_) => fields::GROUP_MAGIC,
-    }
-}
-
-fn reach_member(reach: Reach) -> u32
-    ensures { result ≡ reach_member reach }
-{
-    match reach {
-        Reach::Own => 0,
-        Reach::Member(number) => number,
+    match member {
+        None => fields::REQUEST_MAGIC,
+        Some(_) => fields::GROUP_MAGIC,
     }
 }
 
 // A parsed request's numbers again.
+// Kept, the new form is no plainer: a From beside this function would be a second name for the same numbers.
 pub fn numbers(request: ParsedRequest) -> rules::Request
     ensures { result ≡ numbers_of request }
 {
-    let o = request.operation;
-    let v = operation_numbers(o);
-    let reach = request.reach;
+    let v = operation_numbers(request.operation);
     rules::Request {
-        magic: reach_magic(reach),
+        magic: reach_magic(request.member),
         operation: v.operation,
         level: request.level,
         time: request.time,
@@ -124,7 +90,7 @@ pub fn numbers(request: ParsedRequest) -> rules::Request
         A: v.a,
         B: v.b,
         n: request.n,
-        member: reach_member(reach),
+        member: request.member.unwrap_or(0),
     }
 }
 
@@ -132,9 +98,5 @@ pub fn numbers(request: ParsedRequest) -> rules::Request
 pub fn target_of(c: rules::Credential, request: ParsedRequest) -> u32
     ensures { result ≡ target_of c (numbers_of request) }
 {
-    let reach = request.reach;
-    match reach {
-        Reach::Own => c.object,
-        Reach::Member(member) => member,
-    }
+    request.member.unwrap_or(c.object)
 }

@@ -1,11 +1,11 @@
 // What the parse answers from a credential and a request: the fields of both, the operation with its own arguments; or
 // the row, of 3 to 6, that refuses them.
-ghost use Rattle.std.specs.Prelude.{◌≡◌, ◌+◌, ◌≤◌, ◌<◌, ◌^◌, length};
-ghost use Rattle.rules.specs.Frame.{frame_length, group_request_size, request_at, starts_behind};
+ghost use Rattle.std.specs.Prelude.{◌≡◌, ◌<◌, ◌^◌};
+ghost use Rattle.rules.specs.Frame.{frame_length, starts_behind};
 ghost use Rattle.wire.specs.Parse.{ArgumentsKept, MemberKept, Formed, operation_number, first_number, second_number, reach_magic, reach_member, answer_of, records_answer};
 
-use crate::{Parsed, ParsedRequest, Reach};
-use rules::Operation;
+use crate::{Parsed, ParsedRequest};
+use rules::{Operation, Refusal};
 
 // The operation numbered op, with those of A and B that it carries; the others are 0.
 fn operation_of(op: u8, a: u32, b: u32) -> Operation
@@ -30,15 +30,12 @@ fn operation_of(op: u8, a: u32, b: u32) -> Operation
     }
 }
 
-// What a request of this mark and with this member reaches.
-fn reach_of(magic: u16, member: u32) -> Reach
+// The member that a request of this mark names.
+fn member_of(magic: u16, member: u32) -> Option<u32>
     requires { MemberKept magic member }
     ensures { (reach_magic result ≡ magic) × (reach_member result ≡ member) }
 {
-    if magic == fields::GROUP_MAGIC {
-        return Reach::Member(member);
-    }
-    Reach::Own
+    (magic == fields::GROUP_MAGIC).then_some(member)
 }
 
 // Where the parts start in a frame whose request r starts at place at.
@@ -56,35 +53,27 @@ fn starts_behind(at: usize, r: rules::Request) -> rules::PartStarts
 }
 
 // The fields of both in a frame of len bytes whose request starts at place at, or the row that refuses them.
-fn fields_or_row(c: rules::Credential, r: rules::Request, at: usize, len: usize) -> Parsed
+pub fn fields_or_row(
+    c: rules::Credential,
+    r: rules::Request,
+    at: usize,
+    len: usize,
+) -> Result<Parsed, Refusal>
     requires { Formed r }
     ensures { answer_of result ≡ records_answer c r at len }
 {
-    let row = record_rows::record_row(c, r, at, len);
-    if row != 0 {
-        return Parsed::Refused(row);
-    }
-    let operation = operation_of(r.operation, r.A, r.B);
-    let reach = reach_of(r.magic, r.member);
-    let starts = starts_behind(at, r);
-    Parsed::Fields(
-        c,
-        ParsedRequest {
-            operation,
-            reach,
-            level: r.level,
-            time: r.time,
-            count: r.count,
-            n: r.n,
-            starts,
-        },
-    )
-}
-
-// The same of the credential c and of the request at place at of the frame s, where the longest request is all there.
-pub fn request_at(s: &[u8], at: usize, c: rules::Credential) -> Parsed
-    requires { at + group_request_size ≤ length s.now }
-    ensures { answer_of result ≡ records_answer c (request_at s.now at) at (length s.now) }
-{
-    fields_or_row(c, fields::request_in(s, at), at, s.len())
+    record_rows::record_row(c, r, at, len)?;
+    let request = ParsedRequest {
+        operation: operation_of(r.operation, r.A, r.B),
+        member: member_of(r.magic, r.member),
+        level: r.level,
+        time: r.time,
+        count: r.count,
+        n: r.n,
+        starts: starts_behind(at, r),
+    };
+    Ok(Parsed {
+        credential: c,
+        request,
+    })
 }

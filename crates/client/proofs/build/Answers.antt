@@ -1,35 +1,30 @@
 -- A refusal by `build-refused`; a grant joins credential, request, data and digest: `build-granted`.
-use mathlib.Core.Path.{◌≡◌, refl, sym, ap, ◌∙◌}
-use native.Mathlib.Omega.{arith}
+use Rattle.std.proofs.Common.{◌∙◌, ap, arith, sym}
 use Rattle.digest.specs.Hmac.{hmac}
 use Rattle.rules.specs.declared.Request.{Request}
 use Rattle.rules.specs.Frame.{covered}
-use Rattle.rules.specs.Client.{build_rows}
 use Rattle.rules.proofs.RoundTrip.{frame-room}
-use Rattle.lemmas.specs.RowTable.{first_row}
+use Rattle.rules.proofs.Refused.{handed_on}
 use Rattle.client.proofs.ClientLaws.{build-granted, build-length, build-refused}
 use Rattle.client.proofs.build.Goals as goal
 
-pub returns-then-row-ne0 : goal.returns-then-row-ne0
-returns-then-row-ne0 c =
+pub returns-in_err-build_row : goal.returns-in_err-build_row
+returns-in_err-build_row c =
     let a = c.args in
-    let i = c.build_row-row in
-    build-refused a.credential.now a.request.now a.bytes.now a.key.now a.space.now i.result _ (i.ensures _ _ _ refl refl refl) c.if-row-ne0.true refl
+    rw (handed_on c.from_residual.result _ c.from_residual.ensures.1)
+    (build-refused a.credential.now a.request.now a.bytes.now a.key.now a.space.now _ c.in_err-build_row.ensures)
 
-pub join-length-requires : goal.join-length-requires
-join-length-requires c =
+pub join-requires : goal.join-requires
+join-requires c =
     let a = c.args in
-    -- no row applies
-    let zero : first_row (build_rows a.credential.now a.request.now a.bytes.now a.key.now a.space.now) ≡ 0 =
-    sym (c.build_row-row.ensures _ _ _ refl refl refl) ∙ c.if-row-ne0.false in
-    let l = build-length a.credential.now a.request.now a.bytes.now a.key.now a.space.now zero in
-    omega (arith, l, frame-room a.credential.now a.request.now a.bytes.now a.key.now a.space.now zero)
+    let zero = sym c.in_ok-build_row.ensures in
+    let long = build-length a.credential.now a.request.now a.bytes.now a.key.now a.space.now zero in
+    omega (arith, long, frame-room a.credential.now a.request.now a.bytes.now a.key.now a.space.now zero)
 
 pub returns : goal.returns
 returns c =
-    let j = c.join-length.ensures in
     let a = c.args in
-    build-granted a.credential.now a.request.now a.bytes.now a.key.now a.space.now _ c.frame_digest-digest.result _ (sym (c.build_row-row.ensures _ _ _ refl refl refl) ∙ c.if-row-ne0.false) refl j.0
+    build-granted a.credential.now a.request.now a.bytes.now a.key.now a.space.now _ c.frame_digest-digest.result _ (sym c.in_ok-build_row.ensures) c.join.ensures.0
     (c.frame_digest-digest.ensures
     ∙ ap (λ (r : Request). hmac a.key.now (covered r.level a.credential.now a.request.now a.bytes.now)) c.request_in-r.ensures)
-    j.1
+    c.join.ensures.1

@@ -6,4 +6,5 @@ use Rattle.credential_bytes.proofs.put_credential.Goals as goal
 
 pub returns : goal.returns
 unfolding credential_bytes every layout_size
-returns c = c.write.ensures
+returns c =
+    cc c.write.ensures

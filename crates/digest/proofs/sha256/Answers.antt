@@ -11,4 +11,4 @@ returns-then-message-gt-MOST c = simp (lt-ltb _ _ c.if-message-gt-MOST.true)
 
 pub returns : goal.returns
 unfolding first_row
-returns c = simp (le-ltb _ _ c.if-message-gt-MOST.false) (ap (answer 0) c.of-bytes.ensures)
+returns c = simp (le-ltb _ _ c.if-message-gt-MOST.false) (ap (answer 0) c.of.ensures)

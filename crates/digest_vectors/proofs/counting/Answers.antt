@@ -1,23 +1,20 @@
--- The loop's invariant: the array starts with the bytes counted so far. By count-step.
-use mathlib.Core.Path.{◌≡◌, refl, sym, ◌∙◌}
-use native.Mathlib.Omega.{arith}
-use lib.ListN.{length-set}
-use lib.Seq.{take_all}
-use borrow.Author.Rules.{rules}
+-- By count_step.
+use Rattle.std.proofs.Common.{rules, ◌≡◌, refl, sym, ◌∙◌, arith, length-set, take_all}
 use Rattle.digest_vectors.specs.Hex.{count}
 use Rattle.digest_vectors.proofs.Text.{count_step}
 use Rattle.digest_vectors.proofs.counting.Goals as goal
 
 pub loop-i-init : goal.loop-i-init
 unfolding count
-loop-i-init c = (omega arith, search rules, refl)
+loop-i-init c = (search rules, refl)
 
 pub loop-i-preserved : goal.loop-i-preserved
 loop-i-preserved c =
-    let v = c.loop-i.invariant in
-    (omega arith, rw length-set v.1, count_step c.loop-i.b c.loop-i.i (omega arith) v.2)
+    let l = c.loop-i in
+    (rw length-set l.invariant.0, count_step l.b l.i (omega (arith, l.invariant.0)) l.invariant.1)
 
 pub returns : goal.returns
 returns c =
-    let e : c.loop-i.i ≡ 129 = omega arith in
-    sym (take_all 129 c.loop-i.b (omega arith)) ∙ (rw e at c.loop-i.invariant.2)
+    let l = c.loop-i in
+    let e : l.i ≡ 129 = omega arith in
+    sym (take_all 129 l.b (omega arith)) ∙ (rw e at l.invariant.1)

@@ -10,9 +10,11 @@ use borrow.Author.Tests.{ne_eqb, eqb-true, not-false}
 use Rattle.lemmas.specs.Lists.{every}
 use Rattle.lemmas.specs.RowTable.{first_row, applies, none_applies}
 use Rattle.lemmas.specs.Tests.{◌isnt◌, or_l, or_r}
+use Rattle.rules.specs.Refusals.{refusal_row}
 use Rattle.rules.specs.Drive.{Formatted, format, format_rows, new_drive, new_tables, no_drive}
 use Rattle.keyring.specs.Keys.{keys_in}
 use Rattle.keyring.specs.KeyLaws.{keys_none, fresh_set}
+use Rattle.drive.proofs.Admitting.{row_not_zero}
 use Rattle.drive.proofs.format.Goals as goal
 
 module _ (m : List ℕ) (F : ℕ) (master key : List ℕ) where
@@ -37,12 +39,12 @@ module _ (m : List ℕ) (F : ℕ) (master key : List ℕ) where
         eqb-true (length key) 32 (not-false (eqb (length key) 32) (or_r (length master isnt 32) (length key isnt 32) no)),
       )
 
-pub returns-then-row-ne0 : goal.returns-then-row-ne0
+pub returns-in-Err : goal.returns-in-Err
 unfolding format_rows
-returns-then-row-ne0 c =
+returns-in-Err c =
     let a = c.args in
-    let row = c.format_row-row in
-    let e = refused a.medium.now a.first a.master.now a.key.now row.result row.ensures c.if-row-ne0.true in
+    let r = refusal_row c.in-Err.refusal in
+    let e = refused a.medium.now a.first a.master.now a.key.now r c.in-Err.ensures (row_not_zero c.in-Err.refusal) in
     record {
       row = ap (λ (x : Formatted). x.row) (sym e);
       drive = (rw keys_none at c.new_drive-drive.ensures) ∙ ap (λ (x : Formatted). x.drive) (sym e);
@@ -53,7 +55,7 @@ pub returns : goal.returns
 unfolding format_rows
 returns c =
     let a = c.args in
-    let zero = sym c.if-row-ne0.false ∙ c.format_row-row.ensures in
+    let zero = c.in_default.ensures in
     let e = made a.medium.now a.first a.master.now a.key.now zero in
     let long = lent a.medium.now a.first a.master.now a.key.now zero in
     let keys = ap keys_in c.new_keys-keys.ensures ∙ fresh_set a.master.now a.key.now long.0 long.1 in

@@ -1,21 +1,18 @@
--- Inside: the cleared part, said of the whole (splice_all). Else nothing was lent.
+-- Inside: the cleared part, said of the whole (splice_all).
 use mathlib.Core.Path.{◌≡◌, sym, ◌∙◌}
 use mathlib.Core.Bool.{true}
 use Prim.Native.Nat.{◌+◌, ◌-◌, ◌≤◌}
 use native.Mathlib.Omega.{arith}
 use lib.Dec.{leb}
 use lib.ListN.{length, take, drop, replicate, length-replicate, length-take, length-drop}
-use borrow.Author.Tests.{leb-true, not-true, not-false}
+use borrow.Author.Tests.{leb-true}
 use Rattle.extent.specs.Extent.{splice_all}
 use Rattle.extent.proofs.clear_extent.Goals as goal
 
-pub returns-then-not-inside : goal.returns-then-not-inside
-returns-then-not-inside c = rw (← c.fits-inside.ensures, not-true c.fits-inside.result c.if-not-inside.true-raw)
-
-pub returns : goal.returns
-returns c =
+pub returns-then-fits : goal.returns-then-fits
+returns-then-fits c =
     let a = c.args in
-    let passed : leb (a.start + a.size) (length a.medium.now) ≡ true = sym c.fits-inside.ensures ∙ not-false c.fits-inside.result c.if-not-inside.false-raw in
+    let passed : leb (a.start + a.size) (length a.medium.now) ≡ true = sym c.fits.ensures ∙ c.if-fits.true in
     let k : a.start + a.size ≤ length a.medium.now = leb-true (a.start + a.size) (length a.medium.now) passed in
     let fit : (a.start + a.size) - a.start ≡ a.size = omega arith in
     let size : length (take a.size (drop a.start a.medium.now)) ≡ a.size = simp (length-take, length-drop) (omega arith) in

@@ -1,60 +1,45 @@
 -- The loop's invariant: what is put are the first lines, and those of the other calls are to come.
-use mathlib.Core.Path.{◌≡◌, refl, ◌∙◌}
-use mathlib.Core.List.{List}
-use Prim.Native.Nat.{ℕ, ◌+◌, ◌*◌, ◌^◌, ◌≤◌, ◌<◌}
-use native.Mathlib.Omega.{arith}
-use lib.ListN.{get_or, length, take}
-use borrow.Author.Rules.{rules}
-use borrow.Author.Tests.{le-leb}
+use Rattle.std.proofs.Common.{◌≡◌, ◌∙◌, List, ℕ, ◌+◌, ◌≤◌, ◌<◌, length, map, take, get_or, arith, sym, ap₂, ◌++◌, le-leb}
+use Rattle.std.proofs.lemmas.List.{get_or-map, length-map}
 use Rattle.rules.specs.Program.{printed}
 use Rattle.lines.specs.Decimal.{length-printed}
 use Rattle.lines.specs.Placed.{text_put_lem}
+use Rattle.reader.specs.Promises.{answered_length, answered_row}
 use Rattle.gate.specs.Lines.{lines_end, lines_start, lines_step}
 use Rattle.gate.proofs.put_lines.Goals as goal
+
+pub loop-i-init : goal.loop-i-init
+loop-i-init c = (omega arith, lines_start _ _ _)
 
 pub loop-i-preserved : goal.loop-i-preserved
 loop-i-preserved c =
     let l = c.loop-i in
     let a = c.args in
-    let test = c.loop-i-test.true in
     let p = c.put_line-put in
-    let t : List ℕ = printed (a.n + l.i + 1) (get_or a.rows.now l.i 0) (get_or a.lengths.now l.i 0) in
-    let short : length t ≤ 63 = length-printed (a.n + l.i + 1) (get_or a.rows.now l.i 0) (get_or a.lengths.now l.i 0) in
-    let room : l.put + length t ≤ length l.out = omega (arith, l.invariant.1, l.invariant.2, test, c.requires.1, short) in
-    let place : p.result ≡ l.put + length t = p.ensures.1 ∙ (rw (le-leb (l.put + length t) (length l.out) room)) in (
-      omega (arith, test),
-      omega (arith, place, l.invariant.1, short),
-      p.auto.space ∙ l.invariant.2,
-      lines_step a.n l.i a.rows.now a.lengths.now (take l.put l.out) (take p.result p.new.space) test c.requires.0
-          l.invariant.3 (text_put_lem l.out l.put t p.result p.new.space room p.ensures),
+    let rows : List ℕ = map answered_row a.answers.now in
+    let lengths : List ℕ = map answered_length a.answers.now in
+    let within : l.i < length a.answers.now = omega (arith, c.loop-i-test.true) in
+    let row : c.row.result ≡ get_or rows l.i 0 = c.row.ensures ∙ sym (get_or-map answered_row a.answers.now l.i _ 0 within) in
+    let size : c.length.result ≡ get_or lengths l.i 0 =
+    c.length.ensures ∙ sym (get_or-map answered_length a.answers.now l.i _ 0 within) in
+    let t : List ℕ = printed (a.n + l.i + 1) c.row.result c.length.result in
+    let short : length t ≤ 63 = length-printed (a.n + l.i + 1) c.row.result c.length.result in
+    let room : l.put + length t ≤ length l.out = omega (arith, l.invariant.0, l.auto.out, within, c.requires.0, short) in
+    let place : p.result ≡ l.put + length t = p.ensures.1 ∙ (rw (le-leb (l.put + length t) (length l.out) room)) in
+    let line : take p.result p.new.space ≡ take l.put l.out ++ printed (a.n + l.i + 1) (get_or rows l.i 0) (get_or lengths l.i 0) =
+    text_put_lem l.out l.put t p.result p.new.space room p.ensures
+    ∙ ap₂ (λ (k n : ℕ). take l.put l.out ++ printed (a.n + l.i + 1) k n) row size in (
+      omega (arith, place, l.invariant.0, short),
+      lines_step a.n l.i rows lengths (take l.put l.out) (take p.result p.new.space)
+          (omega (arith, within, length-map a.answers.now answered_row))
+          (length-map a.answers.now answered_row ∙ sym (length-map a.answers.now answered_length)) l.invariant.1 line,
     )
 
 pub returns : goal.returns
 returns c =
     let l = c.loop-i in
     let a = c.args in (
-      omega (arith, l.invariant.0, l.invariant.1, l.invariant.2, c.requires.1),
-      lines_end a.n l.i a.rows.now a.lengths.now (take l.put l.out) c.loop-i-test.false l.invariant.3,
+      omega (arith, l.invariant.0, c.requires.0, l.auto.i-end),
+      lines_end a.n l.i (map answered_row a.answers.now) (map answered_length a.answers.now) (take l.put l.out)
+          (omega (arith, c.loop-i-test.false, length-map a.answers.now answered_row)) l.invariant.1,
     )
-
-pub loop-i-init : goal.loop-i-init
-loop-i-init c =
-    (omega arith, omega arith, refl, lines_start _ _ _)
-
-pub overflow_add-n : goal.overflow_add-n
-overflow_add-n c =
-    omega (arith, c.loop-i-test.true, c.requires.2)
-
-pub overflow_add-n-in-loop-i : goal.overflow_add-n-in-loop-i
-overflow_add-n-in-loop-i c =
-    omega (arith, c.loop-i-test.true, c.requires.2)
-
--- what a lent list takes has fewer than 2 ^ 63 bytes
-pub offset_bounds-lengths-i : goal.offset_bounds-lengths-i
-offset_bounds-lengths-i c =
-    let k : length c.args.lengths.now * 8 < 2 ^ 63 = search rules in
-    record { fits = omega (arith, k, c.loop-i-test.true, c.requires.0) }
-
-pub bounds-lengths-i : goal.bounds-lengths-i
-bounds-lengths-i c =
-    omega (arith, c.loop-i-test.true, c.requires.0)

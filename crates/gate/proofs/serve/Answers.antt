@@ -1,54 +1,14 @@
--- The loop's invariant is its progress since the format. Each round that the loop goes on after has brought a byte or a call.
-use mathlib.Core.Path.{sym, subst, ◌∙◌}
-use mathlib.Core.Bool.{true, true≢false}
-use native.Mathlib.Omega.{arith}
-use borrow.Author.Tests.{not-true}
-use Rattle.reader.proofs.Stops.{not_running}
-use Rattle.reader.specs.declared.Intake.{Intake}
-use Rattle.gate.specs.Promises.{Progress}
+-- Nothing is served yet.
+use Rattle.std.proofs.Common.{sym, subst, Ok}
+use Rattle.gate.specs.declared.Served.{Served}
+use Rattle.gate.specs.Promises.{loop_state, Progress}
 use Rattle.gate.specs.Rounds.{progress_none}
 use Rattle.gate.proofs.serve.Goals as goal
 
--- what a round asks holds at the loop's head: the lent buffers stay as long as they were
-pub round-t-requires : goal.round-t-requires
-round-t-requires c =
-    let l = c.loop-t in
-    let pre = c.requires.1 in (
-      l.invariant,
-      (
-        l.auto.reply ∙ pre.0,
-        omega (arith, l.auto.rows, l.auto.lengths, l.auto.partitions, pre.1),
-        omega (arith, l.auto.rows, l.auto.out, pre.2),
-      ),
-    )
-
-pub returns-then-not-t : goal.returns-then-not-t
-returns-then-not-t c =
-    record {
-      reached = c.round-t.ensures.reached;
-      stopped = λ w. absurd (true≢false (sym w ∙ not-true _ c.if-not-t.true));
-    }
-
-pub returns-in_default : goal.returns-in_default
-returns-in_default c =
-    record {
-      reached = c.round-t.ensures.reached;
-      stopped = λ w. not_running c.round-t.result.intake.outcome c.in_default.not-Running;
-    }
-
-pub loop-t-smaller : goal.loop-t-smaller
-loop-t-smaller c =
-    let m = c.round-t.ensures in
-    let p = m.reached.progress in
-    omega (arith, m.grows c.in-Running.is, p.counted, p.session.fewer, p.session.received, p.session.bound)
-
-pub loop-t-preserved : goal.loop-t-preserved
-loop-t-preserved c = c.round-t.ensures.reached.progress
-
-pub loop-t-init : goal.loop-t-init
-loop-t-init c =
+pub loop-init : goal.loop-init
+loop-init c =
     let a = c.args in
-    let fresh = progress_none a.drive a.medium.now a.input.now a.inlog.now a.outlog.now c.requires.0 in
+    let b = a.buffers.now in
     subst
-    (λ (i : Intake). Progress (record { drive = a.drive; intake = i; calls = 0; logged = 0; written = true }) a.medium.now
-    a.input.now a.inlog.now a.outlog.now) (sym c.start.ensures) fresh
+    (λ (t : Served). Progress (loop_state a.drive.now t (Ok tt)) b.medium b.input a.inlog.now a.outlog.now)
+    (sym c.requires.1) (progress_none a.drive.now b.medium b.input a.inlog.now a.outlog.now c.requires.0)

@@ -1,43 +1,56 @@
 -- `group::group_row` meets its contract: the list is walked to its end.
-use mathlib.Core.Path.{sym, ◌∙◌}
-use Prim.Native.Nat.{◌≤◌, ◌<◌}
-use native.Mathlib.Omega.{arith}
-use Rattle.lemmas.specs.BigEndian.{number_at}
-use Rattle.group.specs.GroupRow.{walk_start, walk_on, walk_odd, walk_falls, walk_end}
+use Rattle.std.proofs.Common.{◌≡◌, ◌%◌, ◌<◌, ◌≤◌, not, sym, ap, ◌∙◌, length, ℕ}
+use Rattle.std.proofs.lemmas.List.{length-map, get_or-map}
+use Rattle.std.specs.Int.{w32, from_be_bytes}
+use borrow.Author.Tests.{eqb-true, eqb-false, leb-true, leb-false, not-true, not-false}
+use mathlib.Core.List.{List, map}
+use Rattle.rules.proofs.Refused.{row_handed_on, refused_tells, passed_tells, row_last}
+use Rattle.rules.specs.declared.refusal.Refusal.TheVariants.{NotListed}
+use Rattle.rules.specs.Group.{members_in, rising}
+use Rattle.group.specs.GroupRow.{has, members_are, walk_on, walk_odd, walk_falls, walk_end, row_falls, row_walked}
 use Rattle.group.proofs.group_row.Goals as goal
 
-pub returns-then-bytes-ne0 : goal.returns-then-bytes-ne0
-returns-then-bytes-ne0 c =
+pub returns-in_err-refuse : goal.returns-in_err-refuse
+returns-in_err-refuse c =
     let a = c.args in
-    sym (walk_odd a.bytes.now a.member c.if-bytes-ne0.true)
+    let h = refused_tells _ _ _ c.in_err-refuse.ensures in
+    let some_left = eqb-false _ 0 (sym c.is_empty.ensures ∙ not-true _ h.0) in
+    let odd : length a.bytes.now % 4 ≡ 0 → ⊥ = λ e. some_left (c.as_chunks.ensures.back_len ∙ e) in
+    row_handed_on _ _ c.from_residual.ensures.1 ∙ rw h.1 (sym (walk_odd a.bytes.now a.member odd))
 
-pub loop-at-init : goal.loop-at-init
-loop-at-init c =
+pub returns-in_err-refuse-2 : goal.returns-in_err-refuse-2
+returns-in_err-refuse-2 c =
     let a = c.args in
-    walk_start a.bytes.now a.member c.if-bytes-ne0.false
+    let l = c.loop-place in
+    let h = refused_tells _ _ _ c.in_err-refuse-2.ensures in
+    let none_left = eqb-true _ 0 (sym c.is_empty.ensures ∙ not-false _ (passed_tells _ _ _ c.in_ok-refuse.ensures)) in
+    let ns : List ℕ = map (from_be_bytes w32) c.as_chunks.result.0.now in
+    let within : l.place-index < length ns = rw length-map c.loop-place-test.true in
+    let all : members_in a.bytes.now ≡ ns = members_are a.bytes.now ∙ ap (map (from_be_bytes w32)) (sym c.as_chunks.ensures.front) in
+    let number = c.from_be_bytes-number.ensures ∙ sym (get_or-map (from_be_bytes w32) _ _ _ 0 c.loop-place-test.true) in
+    let falls = walk_falls ns a.member l.place-index l.last _ l.found l.invariant within number (leb-true _ _ h.0) in
+    row_handed_on _ _ c.from_residual-in_err-refuse-2.ensures.1
+    ∙ rw h.1 (sym (row_falls a.bytes.now a.member (sym c.as_chunks.ensures.back_len ∙ none_left) (ap (rising 0) all ∙ falls)))
 
-pub member_at-number-requires : goal.member_at-number-requires
-member_at-number-requires c =
-    let w = c.loop-at.invariant in
-    omega (arith, w.whole, w.place)
-
-pub returns-then-number-last : goal.returns-then-number-last
-returns-then-number-last c =
+pub loop-place-preserved : goal.loop-place-preserved
+loop-place-preserved c =
     let a = c.args in
-    let l = c.loop-at in
-    let k : number_at a.bytes.now l.at 4 ≤ l.last = omega (arith, c.member_at-number.ensures) in
-    sym (walk_falls a.bytes.now a.member l.at l.last l.found l.invariant (omega arith) k)
-
-pub loop-at-preserved : goal.loop-at-preserved
-loop-at-preserved c =
-    let a = c.args in
-    let l = c.loop-at in
-    let n = number_at a.bytes.now l.at 4 in
-    let k : l.last < n = omega (arith, c.member_at-number.ensures) in
-    rw c.member_at-number.ensures (walk_on a.bytes.now a.member l.at l.last l.found l.invariant (omega arith) k)
+    let l = c.loop-place in
+    let ns : List ℕ = map (from_be_bytes w32) c.as_chunks.result.0.now in
+    let within : l.place-index < length ns = rw length-map c.loop-place-test.true in
+    let number = c.from_be_bytes-number.ensures ∙ sym (get_or-map (from_be_bytes w32) _ _ _ 0 c.loop-place-test.true) in
+    walk_on ns a.member l.place-index l.last _ l.found l.invariant within number
+    (leb-false _ _ (passed_tells _ _ _ c.in_ok-refuse-2.ensures))
 
 pub returns : goal.returns
 returns c =
     let a = c.args in
-    let l = c.loop-at in
-    c.pick.ensures ∙ sym (walk_end a.bytes.now a.member l.at l.last l.found l.invariant (omega arith))
+    let l = c.loop-place in
+    let none_left = eqb-true _ 0 (sym c.is_empty.ensures ∙ not-false _ (passed_tells _ _ _ c.in_ok-refuse.ensures)) in
+    let ns : List ℕ = map (from_be_bytes w32) c.as_chunks.result.0.now in
+    let past : length ns ≤ l.place-index = rw length-map c.loop-place-test.false in
+    let all : members_in a.bytes.now ≡ ns = members_are a.bytes.now ∙ ap (map (from_be_bytes w32)) (sym c.as_chunks.ensures.front) in
+    let end = walk_end ns a.member l.place-index l.last l.found l.invariant past in
+    rw c.refuse-2.ensures (row_last (not l.found) NotListed)
+    ∙ sym (row_walked a.bytes.now a.member l.found (sym c.as_chunks.ensures.back_len ∙ none_left) (ap (rising 0) all ∙ end.0)
+    (ap (has a.member) all ∙ end.1))

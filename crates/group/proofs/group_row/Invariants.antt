@@ -1,11 +1,8 @@
 -- `group::group_row` meets its contract: the list is walked to its end.
-use Prim.Native.Nat.{◌-◌}
-use lib.ListN.{length}
+use mathlib.Core.List.{map}
+use Rattle.std.specs.Int.{w32, from_be_bytes}
 use Rattle.group.specs.GroupRow.{Walked}
 use Rattle.group.proofs.group_row.Given as goal
 
-abbrev pub invariant-loop-at : goal.invariant-loop-at
-invariant-loop-at l = Walked l.bytes l.member l.at l.last l.found
-
-abbrev pub decreases-loop-at : goal.decreases-loop-at
-decreases-loop-at l = length l.bytes - l.at
+abbrev pub invariant-loop-place : goal.invariant-loop-place
+invariant-loop-place l = Walked (map (from_be_bytes w32) l.places) l.member l.place-index l.last l.found

@@ -5,4 +5,4 @@ use Rattle.judge.proofs.entry_of.Goals as goal
 
 pub returns : goal.returns
 unfolding entry numbers_of
-returns c = refl
+returns c = rw c.from.ensures refl

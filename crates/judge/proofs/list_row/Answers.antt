@@ -2,10 +2,10 @@
 use Rattle.wire.specs.Parse.{numbers_of}
 use Rattle.judge.proofs.list_row.Goals as goal
 
-pub returns-in-Own : goal.returns-in-Own
+pub returns-in-None : goal.returns-in-None
 unfolding numbers_of
-returns-in-Own c = rw c.in-Own.is
+returns-in-None c = rw c.in-None.is
 
-pub returns-in-Member : goal.returns-in-Member
+pub returns-in-Some : goal.returns-in-Some
 unfolding numbers_of
-returns-in-Member c = rw c.in-Member.is c.group_row.ensures
+returns-in-Some c = rw c.in-Some.is c.group_row.ensures

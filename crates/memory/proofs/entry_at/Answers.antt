@@ -11,7 +11,7 @@ returns c =
     let es = a.entries.now in
     let ts = a.times.now in
     let at = entry_size * a.i in
-    sym (entries_at es ts a.i (omega (arith, c.requires.0, c.requires.1, entries-count es ts))
+    c.entry_of.ensures ∙ sym (entries_at es ts a.i (omega (arith, c.requires.0, c.requires.1, entries-count es ts))
     ∙ rw (
       get_d_part es at entry_size 0 (omega arith),
       get_d_part es at entry_size 1 (omega arith),

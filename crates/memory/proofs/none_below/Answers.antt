@@ -1,26 +1,23 @@
--- While seen is under 2^63 none of the first i times is below the floor (quick_more).
-use Rattle.std.proofs.Common.{◌≡◌, ◌^◌, refl, arith, ltb-true}
+-- While seen is under 2^63 none of the times so far is below the floor (quick_more).
+use Rattle.std.proofs.Common.{◌^◌, refl, arith, ltb-true, take_all}
 use Rattle.lemmas.specs.Lists.{some?}
 use Rattle.memory.proofs.Quick.{quick_high, quick_more}
 use Rattle.memory.proofs.none_below.Goals as goal
 
-pub loop-i-init : goal.loop-i-init
+pub loop-time-init : goal.loop-time-init
 unfolding some?
-loop-i-init c = (omega arith, omega arith, λ q. refl)
+loop-time-init c = (omega arith, λ q. refl)
 
-pub loop-i-preserved : goal.loop-i-preserved
-loop-i-preserved c =
-    let l = c.loop-i in
-    let a = c.args in
-    let d = c.wrapping_sub_u64-seen in (
-      omega arith,
-      quick_high a.floor l.seen d.result l.invariant.1,
-      quick_more a.times.now l.i a.floor l.seen d.result (omega arith) l.invariant.1 d.ensures.value l.invariant.2,
+pub loop-time-preserved : goal.loop-time-preserved
+loop-time-preserved c =
+    let l = c.loop-time in
+    let a = c.args in (
+      quick_high a.floor l.seen _ l.invariant.0,
+      quick_more a.times.now l.time-index a.floor l.seen (omega arith) (omega (arith, c.type_inv.times l.time-index)) (omega arith) l.invariant.0 l.invariant.1,
     )
 
 pub returns : goal.returns
 returns c =
-    let l = c.loop-i in
+    let l = c.loop-time in
     let a = c.args in
-    let e : l.i ≡ a.n = omega arith in
-    λ q. rw e at (l.invariant.2 (ltb-true l.seen (2 ^ 63) q))
+    λ q. rw (take_all l.time-index a.times.now (omega arith)) at (l.invariant.1 (ltb-true l.seen (2 ^ 63) q))

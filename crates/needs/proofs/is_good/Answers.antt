@@ -7,7 +7,6 @@ use native.Mathlib.Omega.{arith}
 use lib.Dec.{leb}
 use lib.ListN.{take}
 use lib.Seq.{take_all}
-use borrow.Author.Rules.{rules}
 use Rattle.lemmas.specs.Lists.{every}
 use Rattle.lemmas.specs.Loops.{every_take}
 use Rattle.rules.specs.declared.Need.{Need}
@@ -32,16 +31,14 @@ all b i r n h e s =
 
 pub loop-i-init : goal.loop-i-init
 unfolding every
-loop-i-init c = (search rules, refl)
+loop-i-init c = refl
 
 pub loop-i-preserved : goal.loop-i-preserved
 loop-i-preserved c =
     let l = c.loop-i in
-    let b = c.args.bytes.now in
-    (omega arith, more b l.i l.good _ _ (omega arith) l.invariant.1 c.is_good_need-good.ensures c.need_at.ensures)
+    more c.args.bytes.now l.i l.good _ _ (omega arith) l.invariant c.is_good_need-good.ensures c.need_at.ensures
 
 pub returns : goal.returns
 returns c =
     let l = c.loop-i in
-    let b = c.args.bytes.now in
-    all b l.i l.good _ (omega arith) l.invariant.1 c.need_at-last.ensures
+    all c.args.bytes.now l.i l.good _ (omega arith) l.invariant c.need_at-2.ensures

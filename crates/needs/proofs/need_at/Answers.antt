@@ -1,5 +1,5 @@
 -- Three bytes are a need (need_of-bytes); past the end it is all zeros (need_past_end).
-use native.Mathlib.Omega.{arith}
+use Rattle.std.proofs.Common.{arith, ◌∙◌}
 use Rattle.needs.specs.TableBytes.{need_of-bytes, need_past_end}
 use Rattle.needs.proofs.need_at.Goals as goal
 
@@ -14,5 +14,6 @@ returns c =
     let high = c.byte_at-high in
     let i = c.table_place-i in
     let a = c.args in
-    need_of-bytes a.bytes.now a.k i.result _ high.result low.result _ i.ensures high.ensures.0
-    low.ensures.0 c.byte_at.ensures.0 (omega arith)
+    rw c.from-2.ensures
+    (need_of-bytes a.bytes.now a.k i.result _ high.result low.result _ i.ensures high.ensures low.ensures c.byte_at.ensures
+    (c.from.ensures ∙ c.from_be_bytes.ensures ∙ omega arith))

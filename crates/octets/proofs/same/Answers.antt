@@ -1,15 +1,8 @@
--- `octets::same` meets its contract. The loop's invariant: the bytes passed are the same exactly if no bit of them differed.
-use Prim.Native.Nat.{ℕ, ◌+◌}
-use mathlib.Core.Path.{◌≡◌, refl, sym, ◌∙◌}
-use mathlib.Core.Bool.{Bool, true, false, ◌&&◌}
-use mathlib.Core.List.{[]}
-use native.Mathlib.Numerals.{add-one}
-use native.Mathlib.Omega.{arith}
-use lib.Dec.{eqb}
-use lib.ListN.{take, get_or}
-use lib.Seq.{take-suc, length-take-le, take_all}
+-- `octets::same` meets its contract.
+use Rattle.std.proofs.Common.{rules, ◌≡◌, refl, sym, ◌∙◌, ℕ, suc, ◌+◌, Bool, true, false, ◌&&◌, [], ◌∷◌, ◌++◌, length, take, eqb, add-one, arith, take-suc, length-take-le, take_all, eq-eqb, eqb-true, length-append}
 use lib.Bits.{bit_and, bit_or, bit_xor, or_add_and, xor_add_and, and_le_l, and_le_r, xor_self, or_zero_l, or_lt, xor_lt}
-use borrow.Author.Tests.{eq-eqb, ne_eqb, eqb-true, eqb-false}
+use borrow.Author.Tests.{ne_eqb, eqb-false}
+use Rattle.std.proofs.lemmas.Slice.Zip.{zip_turn, zip_end}
 use Rattle.lemmas.specs.Same.{same_lengths, same_snoc, same_refl}
 use Rattle.octets.proofs.same.Goals as goal
 
@@ -28,26 +21,27 @@ joined d x y = by-case (eqb d 0) (eqb x y) refl refl
 pub returns-then-a-b : goal.returns-then-a-b
 returns-then-a-b c = sym (same_lengths _ _ c.if-a-b.true)
 
-pub loop-i-init : goal.loop-i-init
-loop-i-init c = (omega arith, omega arith, same_refl [])
+pub loop-x-init : goal.loop-x-init
+loop-x-init c = (omega arith, same_refl [])
 
-pub loop-i-preserved : goal.loop-i-preserved
-loop-i-preserved c =
-    let l = c.loop-i in
-    let r = c.args in
-    let a = r.a.now in
-    let b = r.b.now in
-    let x = get_or a l.i 0 in
-    let y = get_or b l.i 0 in (
-      omega arith,
-      or_lt 8 l.diff (bit_xor x y) l.invariant.1 (xor_lt 8 x y (omega (arith, c.shared_slice_known-1.given l.i)) (omega (arith, c.shared_slice_known-in-loop-i-1.given l.i))),
-      rw (add-one, take-suc a l.i 0 (omega arith), take-suc b l.i 0 (omega arith), same_snoc (take l.i a) (take l.i b) x y (length-take-le l.i a (omega arith) ∙ sym (length-take-le l.i b (omega arith))), l.invariant.2) (sym (joined l.diff x y)),
+pub loop-x-preserved : goal.loop-x-preserved
+loop-x-preserved c =
+    let l = c.loop-x in
+    let a = c.args.a.now in
+    let b = c.args.b.now in
+    let n = length l.yielded in
+    let x = c.in-Some.x.now in
+    let y = c.in-Some.y.now in
+    let t = zip_turn a b l.yielded c.into_iter-x-iterator.result l.x-iterator c.next.new.self c.next.result (search rules) (search rules) l.yielded_by (c.in-Some.x, c.in-Some.y) c.in-Some.is c.next.ensures.steps in
+    let e : length (l.yielded ++ ((c.in-Some.x, c.in-Some.y) ∷ [])) ≡ suc n = length-append l.yielded ((c.in-Some.x, c.in-Some.y) ∷ []) ∙ add-one n in (
+      or_lt 8 l.diff (bit_xor x y) l.invariant.0 (xor_lt 8 x y (omega (arith, t.2 0, c.type_inv.a n)) (omega (arith, t.3 0, c.type_inv.b n))),
+      rw (e, take-suc a n 0 t.0, take-suc b n 0 t.1, ← t.2 0, ← t.3 0, same_snoc (take n a) (take n b) x y (length-take-le n a (omega arith) ∙ sym (length-take-le n b (omega arith))), l.invariant.1) (sym (joined l.diff x y)),
     )
 
 pub returns : goal.returns
 returns c =
-    let l = c.loop-i in
-    let r = c.args in
-    let a = r.a.now in
-    let b = r.b.now in
-    sym l.invariant.2 ∙ cc (take_all l.i a (omega arith), take_all l.i b (omega arith))
+    let l = c.loop-x in
+    let a = c.args.a.now in
+    let b = c.args.b.now in
+    let n = zip_end a b l.yielded c.into_iter-x-iterator.result l.x-iterator c.next.new.self c.next.result (search rules) (search rules) l.yielded_by c.in-None.is c.next.ensures.steps in
+    sym l.invariant.1 ∙ cc (take_all (length l.yielded) a (omega arith), take_all (length l.yielded) b (omega arith))

@@ -1,13 +1,8 @@
--- `octets::same` meets its contract. The loop's invariant: the bytes passed are the same exactly if no bit of them differed.
-use Prim.Native.Nat.{◌-◌, ◌≤◌, ◌<◌}
-use mathlib.Core.Path.{◌≡◌}
-use lib.Dec.{eqb}
-use lib.ListN.{length, take}
+-- The loop's invariant: the bytes passed are the same exactly if no bit of them differed.
+use Rattle.std.proofs.Common.{◌≡◌, ◌<◌, eqb, length, take}
 use Rattle.lemmas.specs.Lists.{same}
 use Rattle.octets.proofs.same.Given as goal
 
-abbrev pub invariant-loop-i : goal.invariant-loop-i
-invariant-loop-i l = (l.i ≤ length l.a) × (l.diff < 256) × (same (take l.i l.a) (take l.i l.b) ≡ eqb l.diff 0)
-
-abbrev pub decreases-loop-i : goal.decreases-loop-i
-decreases-loop-i l = length l.a - l.i
+abbrev pub invariant-loop-x : goal.invariant-loop-x
+invariant-loop-x l =
+    (l.diff < 256) × (same (take (length l.yielded) l.a) (take (length l.yielded) l.b) ≡ eqb l.diff 0)

@@ -1,37 +1,16 @@
--- The test on what was read is the test on the record itself: `decoded_by`.
-use mathlib.Core.Path.{◌≡◌, refl}
-use mathlib.Core.Bool.{◌||◌, Bool, cond, false, true}
-use mathlib.Core.List.{List, []}
-use Prim.Native.Nat.{ℕ}
-use lib.ListN.{length}
-use Rattle.lemmas.specs.Tests.{◌isnt◌}
+-- The test on the bytes, either way.
+use Rattle.std.proofs.Common.{◌≡◌, ◌∙◌, ap, refl, Bool, cond, true, false, Ok, Err}
 use Rattle.rules.specs.declared.Request.{Request}
-use Rattle.rules.specs.Frame.{request_at, request_length, request_magic, request_of, request_size}
-use Rattle.fields.specs.Records.{request_in}
-use Rattle.records.specs.declared.RequestDecoded.{RequestDecoded}
-use Rattle.records.specs.Coding.{no_request, request_decoded, request_fields, request_unmarked}
-use Rattle.records.proofs.DecodeLaws.{decoded_by, request_long}
+use Rattle.rules.specs.declared.refusal.Refusal.TheVariants.{WrongRecord}
+use Rattle.records.specs.Answers.{request_answer}
+use Rattle.records.specs.Coding.{request_decoded, request_told}
 use Rattle.records.proofs.decode_request.Goals as goal
 
-abbrev refusal : RequestDecoded
-refusal = record { row = 28; fields = no_request }
-
-abbrev answer : Request → RequestDecoded
-answer x = record { row = 0; fields = request_fields x }
-
-decoded : (s : List ℕ) (x : Request) → x ≡ request_in s 0 → (b : Bool) → (length s isnt request_size || request_unmarked request_magic x) ≡ b
-    → cond b refusal (answer x) ≡ request_decoded s
-unfolding request_decoded
-decoded s =
-    decoded_by s request_size (request_length (request_at s 0)) (request_at s 0) (request_of []) (request_unmarked request_magic) refusal answer
-    (request_long request_magic (request_at s 0)) refl
+either : (b : Bool) (r : Request)
+    → request_answer (cond b (Err WrongRecord) (Ok r)) ≡ cond b (request_answer (Err WrongRecord)) (request_answer (Ok r))
+either true r = refl
+either false r = refl
 
 pub returns : goal.returns
-returns c =
-    rw c.request_fields.ensures
-    (decoded c.args.bytes.now c.request_in-q.result c.request_in-q.ensures false c.if-bytes-q.false)
-
-pub returns-then-bytes-q : goal.returns-then-bytes-q
-returns-then-bytes-q c =
-    rw c.no_request.ensures
-    (decoded c.args.bytes.now c.request_in-q.result c.request_in-q.ensures true c.if-bytes-q.true)
+unfolding request_decoded request_told
+returns c = c.from.ensures ∙ ap request_answer c.request_in.ensures ∙ either _ _

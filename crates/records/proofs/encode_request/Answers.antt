@@ -1,6 +1,7 @@
--- The row by the space's length; the space by what `put_request` leaves of it.
+-- What `encode` leaves, of the request that has those fields.
+use Rattle.rules.specs.Frame.{request_length}
 use Rattle.records.proofs.encode_request.Goals as goal
 
 pub returns : goal.returns
-returns c =
-    (c.pick-row.ensures, rw c.request_from.ensures at c.put_request.ensures)
+unfolding request_length
+returns c = rw c.request_from.ensures at c.encode.ensures

@@ -1,19 +1,14 @@
 -- What is left of the reply is its digest.
-use mathlib.Core.Path.{◌≡◌, sym, ap, ◌∙◌}
+use mathlib.Core.Path.{◌≡◌, ap, ◌∙◌}
 use mathlib.Core.Bool.{not}
 use mathlib.Core.List.{append_assoc}
 use Prim.Native.Nat.{ℕ, ◌-◌}
 use native.Mathlib.Omega.{arith}
 use lib.ListN.{length, take, drop}
-use lib.Seq.{length-take-le}
 use Rattle.digest.specs.Hmac.{hmac}
 use Rattle.rules.specs.Frame.{digest_size}
 use Rattle.lemmas.specs.Lists.{part, same}
 use Rattle.reply_check.proofs.wrong_digest.Goals as goal
-
-pub slice_bounds-of3-end : goal.slice_bounds-of3-end
-slice_bounds-of3-end c =
-    let a = c.args in sym (length-take-le a.n a.reply.now (omega arith))
 
 pub returns : goal.returns
 unfolding part

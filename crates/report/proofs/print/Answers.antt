@@ -64,18 +64,18 @@ slice_bounds-write-end c =
     let p = put a.counters.now a.out.now c.put_counts-lines.result c.put_counts-lines.new.space c.requires.0
     c.requires.1 c.put_counts-lines.ensures in
     (both a.counters.now a.out.now c.put_counts-lines.result c.put_counts-lines.new.space a.calls
-    c.put_total-end.result c.put_total-end.new.space p c.put_counts-lines.auto.space
-    c.put_total-end.auto.space c.put_total-end.ensures).fits
+    c.put_last-end.result c.put_last-end.new.space p c.put_counts-lines.auto.space
+    c.put_last-end.auto.space c.put_last-end.ensures).fits
 
 pub slice_bounds-write-end-2 : goal.slice_bounds-write-end-2
 slice_bounds-write-end-2 c =
     let a = c.args in
     let p = put a.counters.now a.out.now c.put_counts-lines.result c.put_counts-lines.new.space c.requires.0
     c.requires.1 c.put_counts-lines.ensures in
-    sym (length-take-le c.put_total-end.result c.put_total-end.new.space
+    sym (length-take-le c.put_last-end.result c.put_last-end.new.space
     (both a.counters.now a.out.now c.put_counts-lines.result c.put_counts-lines.new.space a.calls
-    c.put_total-end.result c.put_total-end.new.space p c.put_counts-lines.auto.space
-    c.put_total-end.auto.space c.put_total-end.ensures).fits)
+    c.put_last-end.result c.put_last-end.new.space p c.put_counts-lines.auto.space
+    c.put_last-end.auto.space c.put_last-end.ensures).fits)
 
 pub returns : goal.returns
 unfolding lines
@@ -84,6 +84,6 @@ returns c =
     let p = put a.counters.now a.out.now c.put_counts-lines.result c.put_counts-lines.new.space c.requires.0
     c.requires.1 c.put_counts-lines.ensures in
     let b = both a.counters.now a.out.now c.put_counts-lines.result c.put_counts-lines.new.space a.calls
-    c.put_total-end.result c.put_total-end.new.space p c.put_counts-lines.auto.space
-    c.put_total-end.auto.space c.put_total-end.ensures in
-    subst (λ (x : List ℕ). Added a.outlog.now 0 x c.write-w.new.log c.write-w.result.logged) b.text c.write-w.ensures
+    c.put_last-end.result c.put_last-end.new.space p c.put_counts-lines.auto.space
+    c.put_last-end.auto.space c.put_last-end.ensures in
+    subst (λ (x : List ℕ). Added a.outlog.now 0 x c.write.new.log c.write.new.at) b.text c.write.ensures

@@ -1,20 +1,10 @@
 -- The rounds, and then the report of their calls.
-use mathlib.Core.Path.{ap, ◌∙◌}
-use lib.ListN.{length}
-use Rattle.tally.specs.Laws.{length_all}
+use Rattle.report.specs.Promises.{loop_state}
 use Rattle.report.specs.Rounds.{run_met}
 use Rattle.report.proofs.run.Goals as goal
 
-pub serve-t-requires : goal.serve-t-requires
-serve-t-requires c =
-    let pre = c.requires in
-    (pre.0, pre.1, pre.2)
-
-pub print-logged-requires : goal.print-logged-requires
-print-logged-requires c =
-    (ap length c.serve-t.ensures.reached.progress.counts ∙ length_all _, c.requires.3)
-
 pub returns : goal.returns
 returns c =
-    run_met c.serve-t.result _ _ _ _ c.args.outlog.now c.print-logged.new.outlog c.print-logged.result
-    c.serve-t.ensures c.print-logged.ensures
+    let n = c.serve.new in
+    run_met (loop_state n.drive n.counted) n.buffers.medium n.buffers.input n.buffers.counters n.inlog c.args.outlog.now
+    c.print.new.outlog c.print.result c.serve.ensures c.print.ensures

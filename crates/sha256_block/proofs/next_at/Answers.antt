@@ -4,10 +4,4 @@ use Rattle.sha256_block.proofs.next_at.Goals as goal
 
 pub returns : goal.returns
 unfolding next
-returns c = rw (
-  c.wrapping_add_u32-3.ensures.value,
-  c.wrapping_add_u32-2.ensures.value,
-  c.small0.ensures,
-  c.wrapping_add_u32.ensures.value,
-  c.small1.ensures,
-)
+returns c = rw (c.small0.ensures, c.small1.ensures)

@@ -8,7 +8,7 @@ pub returns-then-n-room : goal.returns-then-n-room
 returns-then-n-room c =
     let h = c.args.h in
     let l : length h.pending ≡ 64 = search rules in
-    absorbed_short h c.args.part.now l _ (omega arith) refl c.stashed-p.ensures c.wrapping_add_u64-total.ensures.value
+    absorbed_short h c.args.part.now l _ (omega arith) refl c.stashed-p.ensures refl
 
 pub returns : goal.returns
 returns c =
@@ -23,4 +23,4 @@ returns c =
     (c.blocks-last.ensures
     ∙ ap (λ v. blocks ((length p - room) / 64) v (drop room p)) c.compress-first.ensures)
     c.stashed-p-2.ensures
-    c.wrapping_add_u64-total.ensures.value
+    refl

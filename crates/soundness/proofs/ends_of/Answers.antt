@@ -10,7 +10,7 @@ use Rattle.soundness.proofs.ends_of.Goals as goal
 
 pub loop-i-init : goal.loop-i-init
 unfolding each
-loop-i-init c = (search rules, search rules, refl, refl)
+loop-i-init c = (search rules, refl, refl)
 
 pub loop-i-preserved : goal.loop-i-preserved
 loop-i-preserved c =
@@ -21,9 +21,8 @@ loop-i-preserved c =
     let e = c.end_of.ensures in
     let h : l.i < most_objects = omega arith in (
       search rules,
-      search rules,
-      map_took (end_at starts sizes) (range 0 most_objects) l.r l.i 0 c.end_of.result h (omega arith) l.invariant.2 (e.0 ∙ ap (end_at starts sizes) (sym (place_is l.i h))),
-      each_more (narrow_at sizes) l.i ∙ both l.invariant.3 (lt-ltb (get_or sizes l.i 0) (2 ^ 32) e.1),
+      map_took (end_at starts sizes) (range 0 most_objects) l.ends l.i 0 c.end_of.result h (omega arith) l.invariant.1 (e.0 ∙ ap (end_at starts sizes) (sym (place_is l.i h))),
+      each_more (narrow_at sizes) l.i ∙ both l.invariant.2 (lt-ltb (get_or sizes l.i 0) (2 ^ 32) e.1),
     )
 
 pub returns : goal.returns
@@ -31,4 +30,4 @@ unfolding ends_of
 returns c =
     let l = c.loop-i in
     let e : l.i ≡ most_objects = omega arith in
-    (sym (take_all most_objects l.r (omega arith)) ∙ rw e at l.invariant.2, rw e at l.invariant.3)
+    (sym (take_all most_objects l.ends (omega arith)) ∙ rw e at l.invariant.1, rw e at l.invariant.2)

@@ -8,29 +8,20 @@ use Rattle.lemmas.specs.Lists.{keep}
 use Rattle.state.specs.Table.{objects_in}
 use Rattle.state.specs.Steps.{unchanged, changed_table, content_same, delete_kept, delete-passed, deleted_all}
 use Rattle.state.proofs.delete.Goals as goal
+use Rattle.state.proofs.delete.Goals.{then-o-number, else-o-number}
 
 pub returns-then-table-ne-TABLE : goal.returns-then-table-ne-TABLE
 returns-then-table-ne-TABLE c = unchanged _ _ c.if-table-ne-TABLE.true
 
 pub loop-i-init : goal.loop-i-init
 unfolding keep
-loop-i-init c = (search rules, search rules, content_same c.args.table.now, refl)
+loop-i-init c = (search rules, content_same c.args.table.now, refl)
 
 pub put-requires : goal.put-requires
 put-requires c =
-    let k = c.loop-i.invariant.2.long in
+    let k = c.loop-i.invariant.1.long in
     let n = c.object_count-n.ensures in
     (omega (arith, c.if-table-ne-TABLE.false), omega arith)
-
-pub loop-i-preserved-then-o-number : goal.loop-i-preserved-then-o-number
-loop-i-preserved-then-o-number c =
-    let l = c.loop-i in
-    let n = c.object_count-n.ensures in
-    let within : l.i < length (objects_in c.args.table.now) = omega arith in
-    let a = c.args in
-    let o = c.object_at-o in
-    let turn = delete_kept a.table.now l.table a.number l.i l.left within l.invariant.2 l.invariant.3 o.result o.ensures c.put.new.table c.if-o-number.true c.put.ensures in
-    (omega arith, omega arith, turn.0, turn.1)
 
 pub loop-i-preserved : goal.loop-i-preserved
 loop-i-preserved c =
@@ -38,9 +29,17 @@ loop-i-preserved c =
     let n = c.object_count-n.ensures in
     let within : l.i < length (objects_in c.args.table.now) = omega arith in
     let a = c.args in
-    let o = c.object_at-o in
-    let turn = delete-passed a.table.now l.table a.number l.i l.left within l.invariant.2 l.invariant.3 o.result o.ensures c.if-o-number.false in
-    (omega arith, omega arith, turn.0, turn.1)
+    let o = c.read-o in
+    elim c.if-o-number.branch [
+      | then-o-number w ↦
+          let kept = delete_kept a.table.now l.table a.number l.i l.left within l.invariant.1 l.invariant.2 o.result o.ensures
+          w.put.new.table w.if-o-number.true w.put.ensures in
+          rw (w.table-is, w.left-is) (omega arith, kept.0, kept.1)
+      | else-o-number w ↦
+          let passed = delete-passed a.table.now l.table a.number l.i l.left within l.invariant.1 l.invariant.2 o.result o.ensures
+          w.if-o-number.false in
+          rw (w.table-is, w.left-is) (omega arith, passed.0, passed.1)
+    ]
 
 pub overflow_cast-table : goal.overflow_cast-table
 overflow_cast-table c =
@@ -50,7 +49,7 @@ overflow_cast-table c =
 
 pub bounds-table-2 : goal.bounds-table-2
 bounds-table-2 c =
-    let l = c.loop-i.invariant.2.long in
+    let l = c.loop-i.invariant.1.long in
     let w = c.if-table-ne-TABLE.false in
     omega arith
 
@@ -60,4 +59,4 @@ returns c =
     let a = c.args in
     let n = c.object_count-n.ensures in
     let w = c.if-table-ne-TABLE.false in
-    changed_table _ _ _ w (deleted_all a.table.now l.table a.number l.i l.left w (omega arith) l.invariant.2 l.invariant.3)
+    changed_table _ _ _ w (deleted_all a.table.now l.table a.number l.i l.left w (omega arith) l.invariant.1 l.invariant.2)

@@ -19,5 +19,5 @@ returns c =
     let t = c.args.table.now in
     let n = objects-length t in
     let z = count_is t c.if-table-ne-TABLE.false in
-    let w = c.smaller.ensures in
+    let w = c.min.ensures in
     (omega arith, omega arith)

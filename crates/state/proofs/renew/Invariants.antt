@@ -1,5 +1,4 @@
 -- The first i objects are renewed, and all else is as it was (renewed_one, renewed_none).
-use Prim.Native.Nat.{◌-◌, ◌≤◌}
 use lib.ListN.{take}
 use Rattle.lemmas.specs.Lists.{change}
 use Rattle.rules.specs.declared.Object.{Object}
@@ -9,7 +8,4 @@ use Rattle.state.specs.Changes.{HasContent, content_with_front}
 use Rattle.state.proofs.renew.Given as goal
 
 abbrev pub invariant-loop-i : goal.invariant-loop-i
-invariant-loop-i l = (l.i ≤ l.n) × (HasContent l.initial.table l.table (content_with_front (change Object.number l.number (with_version l.version) (take l.i (places l.initial.table))) l.initial.table))
-
-abbrev pub decreases-loop-i : goal.decreases-loop-i
-decreases-loop-i l = l.n - l.i
+invariant-loop-i l = HasContent l.initial.table l.table (content_with_front (change Object.number l.number (with_version l.version) (take l.i (places l.initial.table))) l.initial.table)

@@ -1,33 +1,33 @@
--- Three rows, the last first; credential and request that are not all there are refused whichever way they are read (`late_rows`).
-use mathlib.Core.Path.{◌≡◌, ap, refl, ◌∙◌}
-use Prim.Native.Nat.{◌+◌}
-use lib.Dec.{leb}
-use Rattle.lemmas.specs.RowTable.{first_row}
+-- Each row that did not refuse is passed over, and one that refuses is the table's first; credential and request that are not all
+-- there are refused whichever way they are read (`rows_are_read`).
+use Rattle.std.proofs.Common.{◌∙◌, sym}
 use Rattle.rules.specs.Client.{build_rows}
-use Rattle.rules.specs.Frame.{credential_length}
-use Rattle.fields.specs.Records.{credential_in, request_in, rest_length}
-use Rattle.client.proofs.ClientLaws.{late_rows}
+use Rattle.rules.proofs.Refused.{row_handed_on, row_last, row_passed, row_refused}
+use Rattle.client.proofs.ClientLaws.{rows_are_read}
 use Rattle.client.proofs.rows.build_row.Goals as goal
 
-pub returns : goal.returns
-unfolding build_rows first_row
-returns c p k s e f g =
+pub returns-in_err-refuse : goal.returns-in_err-refuse
+unfolding build_rows
+returns-in_err-refuse c = row_handed_on _ _ c.from_residual.ensures.1 ∙ row_refused _ _ _ _ c.in_err-refuse.ensures
+
+pub returns-in_err-refuse-2 : goal.returns-in_err-refuse-2
+returns-in_err-refuse-2 c =
     let a = c.args in
-    -- whether the frame fits, by what was read
-    let k = c.credential_length-start.ensures ∙ ap credential_length c.credential_in-c.ensures in
-    let n = c.rest_length-rest.ensures ∙ ap rest_length c.request_in-r.ensures in
-    let room : c.fits.result ≡ leb (credential_length (credential_in a.credential.now 0) + rest_length (request_in a.request.now 0)) a.space =
-    c.fits.ensures ∙ (λ i. leb (k i + n i) a.space) in
+    row_handed_on _ _ c.from_residual-in_err-refuse-2.ensures.1
+    ∙ rw (← rows_are_read a.credential.now a.request.now a.bytes.now a.key.now a.space.now, ← c.request_in-r.ensures, ← c.bad_records.ensures)
+    (row_refused _ _ _ _ c.in_err-refuse-2.ensures ∙ sym (row_passed _ _ _ _ c.in_ok-refuse.ensures))
+
+pub returns : goal.returns
+returns c =
+    let a = c.args in
     rw (
-      c.pick.ensures,
-      c.pick-row-2.ensures,
-      c.bad_records.ensures,
-      c.pick-row.ensures,
-      room,
-      c.request_in-r.ensures,
-      late_rows a.credential.now a.request.now a.n a.space,
-      e,
-      f,
-      g,
+      ← rows_are_read a.credential.now a.request.now a.bytes.now a.key.now a.space.now,
+      c.refuse-3.ensures,
+      c.fits.ensures,
+      c.credential_length-start.ensures,
+      c.rest_length-rest.ensures,
+      ← c.credential_in-c.ensures,
+      ← c.request_in-r.ensures,
+      ← c.bad_records.ensures,
     )
-    refl
+    (row_last _ _ ∙ sym (row_passed _ _ _ _ c.in_ok-refuse.ensures ∙ row_passed _ _ _ _ c.in_ok-refuse-2.ensures))

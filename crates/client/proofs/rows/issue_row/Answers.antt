@@ -1,10 +1,22 @@
--- Three rows, the last first.
-use mathlib.Core.Path.{refl}
-use Rattle.lemmas.specs.RowTable.{first_row}
+-- Each row that did not refuse is passed over, and one that refuses is the table's first.
+use Rattle.std.proofs.Common.{◌∙◌, sym}
 use Rattle.rules.specs.Client.{issue_rows}
+use Rattle.rules.proofs.Refused.{row_handed_on, row_last, row_passed, row_refused}
 use Rattle.client.proofs.rows.issue_row.Goals as goal
 
+pub returns-in_err-refuse : goal.returns-in_err-refuse
+unfolding issue_rows
+returns-in_err-refuse c = row_handed_on _ _ c.from_residual.ensures.1 ∙ row_refused _ _ _ _ c.in_err-refuse.ensures
+
+pub returns-in_err-refuse-2 : goal.returns-in_err-refuse-2
+unfolding issue_rows
+returns-in_err-refuse-2 c =
+    row_handed_on _ _ c.from_residual-in_err-refuse-2.ensures.1
+    ∙ rw (← c.bad_credential.ensures)
+    (row_refused _ _ _ _ c.in_err-refuse-2.ensures ∙ sym (row_passed _ _ _ _ c.in_ok-refuse.ensures))
+
 pub returns : goal.returns
-unfolding issue_rows first_row
-returns c k s e f = rw (c.pick.ensures, c.pick-row-2.ensures, c.bad_credential.ensures, c.pick-row.ensures, e, f)
-    refl
+unfolding issue_rows
+returns c =
+    rw (c.refuse-3.ensures, ← c.bad_credential.ensures)
+    (row_last _ _ ∙ sym (row_passed _ _ _ _ c.in_ok-refuse.ensures ∙ row_passed _ _ _ _ c.in_ok-refuse-2.ensures))

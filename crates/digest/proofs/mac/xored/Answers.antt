@@ -1,31 +1,27 @@
--- The bytes XORed so far stand at the start of the array: xored_step.
-use borrow.Author.Rules.{rules}
-use mathlib.Core.Path.{◌≡◌, refl, sym, ◌∙◌}
-use Prim.Native.Nat.{◌≤◌}
-use native.Mathlib.Omega.{arith}
-use lib.ListN.{length, length-set}
-use lib.Seq.{take_all}
+-- Each byte of the block is XORed.
+use Rattle.std.proofs.Common.{rules, refl, ◌∙◌, arith, take_all}
+use Rattle.std.proofs.lemmas.List.{length-map}
+use Rattle.std.specs.Int.Bits.{bit_xor}
+use Rattle.lemmas.specs.Fronts.{front-map, front_all}
 use Rattle.digest.specs.Hmac.{xored}
-use Rattle.digest.proofs.Keys.{xored_step}
 use Rattle.digest.proofs.mac.xored.Goals as goal
 
-pub loop-i-init : goal.loop-i-init
+pub loop-b-init : goal.loop-b-init
 unfolding xored
-loop-i-init c = (omega arith, search rules, search rules, refl)
+loop-b-init c = (search rules, refl)
 
-pub loop-i-preserved : goal.loop-i-preserved
-loop-i-preserved c =
-    let a = c.args in
-    let v = c.loop-i.invariant in
-    let p = c.loop-i.p in
-    let s = xored_step p a.k a.c c.loop-i.i (omega arith) (omega arith) v.3 in
-    (omega arith, v.1, rw length-set v.2, s)
+pub loop-b-preserved : goal.loop-b-preserved
+unfolding xored
+loop-b-preserved c =
+    let l = c.loop-b in (
+      l.invariant.0,
+      front-map (λ b. bit_xor b c.args.c) c.args.k l.b-items l.b-index 0 (omega (arith, l.invariant.0)) l.invariant.1,
+    )
 
 pub returns : goal.returns
+unfolding xored
 returns c =
+    let l = c.loop-b in
     let k = c.args.k in
-    let p = c.loop-i.p in
-    let e : c.loop-i.i ≡ 64 = omega arith in
-    let lp : length p ≤ 64 = omega arith in
-    let lk : length k ≤ 64 = omega arith in
-    sym (take_all 64 p lp) ∙ (rw e at c.loop-i.invariant.3) ∙ rw (take_all 64 k lk)
+    rw (take_all l.b-index k (omega (arith, l.invariant.0))) at l.invariant.1
+    ∙ front_all (xored c.args.c k) k (omega (arith, length-map k (λ b. bit_xor b c.args.c)))

@@ -1,12 +1,10 @@
--- The bytes XORed so far stand at the start of the array: xored_step.
-use mathlib.Core.Path.{◌≡◌}
-use Prim.Native.Nat.{◌≤◌, ◌-◌}
-use lib.ListN.{length, take}
+-- The loop's invariant: the bytes XORed so far stand at the front, and behind them all is as it was.
+use Rattle.std.proofs.Common.{◌≡◌, length, take}
+use Rattle.lemmas.specs.Fronts.{with_front}
 use Rattle.digest.specs.Hmac.{xored}
 use Rattle.digest.proofs.mac.xored.Given as goal
 
-abbrev pub invariant-loop-i : goal.invariant-loop-i
-invariant-loop-i l = (l.i ≤ 64) × (length l.k ≡ 64) × (length l.p ≡ 64) × (take l.i l.p ≡ xored l.c (take l.i l.k))
-
-abbrev pub decreases-loop-i : goal.decreases-loop-i
-decreases-loop-i l = 64 - l.i
+abbrev pub invariant-loop-b : goal.invariant-loop-b
+invariant-loop-b l =
+    (length l.initial.b-items ≡ 64)
+    × (l.b-items ≡ with_front (xored l.c (take l.b-index l.initial.b-items)) l.initial.b-items)

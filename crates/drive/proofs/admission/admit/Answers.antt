@@ -22,12 +22,12 @@ same-level t c n r q e f = rw (e, f) refl
 pub returns-then-low_level : goal.returns-then-low_level
 returns-then-low_level c l w =
     let a = c.args in
-    let q : Request = numbers_of a.request in
-    let judged : c.low_level.result ≡ low_level (need_under (needs_in a.table.now) a.c.slot q.operation) a.c q =
+    let q : Request = numbers_of a.p.request in
+    let judged : c.low_level.result ≡ low_level (need_under (needs_in a.table.now) a.p.credential.slot q.operation) a.p.credential q =
     c.low_level.ensures
-    ∙ same-level a.table.now a.c _ _ q c.need_under-need.ensures c.numbers-r.ensures in
-    refusal-given w a.reply.now c.refusal.result 7
-    (seven w a.reply.now (level_is w ∙ sym judged ∙ c.if-low_level.true)) (λ z. omega arith) c.refusal.ensures
+    ∙ same-level a.table.now a.p.credential _ _ q c.need_under-need.ensures c.numbers-r.ensures in
+    refusal-given w a.reply.now _ 7
+    (seven w a.reply.now (level_is w ∙ sym judged ∙ c.if-low_level.true)) (λ z. omega arith) refl
 
 pub loads_bad_table-bad-requires : goal.loads_bad_table-bad-requires
 loads_bad_table-bad-requires c = starts_hold c.requires.1.parsed

@@ -10,4 +10,4 @@ pub returns : goal.returns
 returns c =
     let a = c.args in
     c.apply.ensures
-    ∙ ap (λ (y : List ℕ). keys_after a.request.operation a.j a.c.slot a.c.partition y a.keys.now) (request-and_data c.requires)
+    ∙ ap (λ (y : List ℕ). keys_after a.p.request.operation a.j a.p.credential.slot a.p.credential.partition y a.keys.now) (request-and_data c.requires)

@@ -12,5 +12,5 @@ pub returns : goal.returns
 returns c =
     let a = c.args in
     subst (λ (y : List ℕ). ChangedTo a.table.now c.apply.new.table
-    (content_after a.request.operation a.c.object a.out.nextversion a.out.newstart (needs_at y) a.table.now))
+    (content_after a.p.request.operation a.p.credential.object a.given.next_version a.given.new_start (needs_at y) a.table.now))
     (the_payload c.requires) c.apply.ensures

@@ -5,11 +5,10 @@ use native.Mathlib.Omega.{arith}
 use Rattle.state.specs.Table.{table_size}
 use Rattle.state.specs.Steps.{emptied_view}
 use Rattle.drive.proofs.Tables.{emptied_none, lent_long, emptied_next, all_emptied}
-use borrow.Author.Rules.{rules}
 use Rattle.drive.proofs.formatting.empty_each.Goals as goal
 
 pub loop-i-init : goal.loop-i-init
-loop-i-init c = (search rules, emptied_none _ _ c.requires)
+loop-i-init c = emptied_none _ _ c.requires
 
 pub loop-i-preserved : goal.loop-i-preserved
 loop-i-preserved c =
@@ -17,13 +16,11 @@ loop-i-preserved c =
     let first = c.args.first in
     let width : ℕ = table_size * l.i + table_size - table_size * l.i in
     let wide : width ≡ table_size = omega arith in
-    let w = l.invariant.1 in (
-      omega arith,
-      emptied_next first l.i width l.tables c.empty.new.table w (omega arith) wide c.empty.auto.table
-          (emptied_view _ c.empty.new.table first (c.empty.ensures.table (lent_long w (omega arith) wide))),
-    )
+    let w = l.invariant in
+    emptied_next first l.i width l.tables c.empty.new.table w (omega arith) wide c.empty.auto.table
+    (emptied_view _ c.empty.new.table first (c.empty.ensures.table (lent_long w (omega arith) wide)))
 
 pub returns : goal.returns
 returns c =
     let l = c.loop-i in
-    all_emptied _ l.i l.tables (omega arith) l.invariant.1
+    all_emptied _ l.i l.tables (omega arith) l.invariant

@@ -4,6 +4,8 @@ use native.Mathlib.Omega.{arith}
 use borrow.Author.Tests.{le-leb, lt-leb}
 use Rattle.lemmas.specs.Tests.{◌is◌, and_l}
 use Rattle.rules.specs.Drive.{largest_medium}
+use Rattle.drive.specs.View.{entries_fit}
+use Rattle.drive.proofs.Tables.{all_every}
 use Rattle.drive.proofs.row1.passes_row1.Goals as goal
 
 pub returns-then-size-gt-LARGEST_MEDIUM : goal.returns-then-size-gt-LARGEST_MEDIUM
@@ -16,6 +18,6 @@ returns c =
     let a = c.args in
     let p = c.sound_tables in
     let m = c.short_memories in (
-      rw (le-leb a.size largest_medium (omega arith), p.ensures.0, m.ensures),
+      rw (le-leb a.size largest_medium (omega arith), p.ensures.0, m.ensures, all_every entries_fit a.lengths.now),
       λ e. p.ensures.1 (and_l p.result m.result (and_l (p.result && m.result) (a.n is a.size) e)),
     )

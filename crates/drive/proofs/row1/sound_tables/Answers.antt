@@ -16,7 +16,6 @@ use Rattle.rules.specs.Drive.{most_objects, sound_partition}
 use Rattle.state.specs.Table.{count_at, table_size, partition_view}
 use Rattle.drive.specs.View.{objects_fit, tables_in}
 use Rattle.drive.proofs.Tables.{tables_at, tables-length}
-use borrow.Author.Rules.{rules}
 use Rattle.keyring.specs.Keys.{partition_count}
 use Rattle.drive.proofs.row1.sound_tables.Goals as goal
 
@@ -32,7 +31,7 @@ the-table l i h e =
 
 pub loop-i-init : goal.loop-i-init
 unfolding every
-loop-i-init c = (search rules, refl, λ h. refl)
+loop-i-init c = (refl, λ h. refl)
 
 pub loop-i-preserved : goal.loop-i-preserved
 loop-i-preserved c =
@@ -48,10 +47,9 @@ loop-i-preserved c =
     s.ensures.0 ∙ rw (eq-eqb _ table_size it.1) (ap (λ (t : List ℕ). sound_partition a.quarter (partition_view t)) it.0) in
     let fewer : s.result ≡ true → get_or (get_or T l.i []) count_at 0 ≤ most_objects =
     λ e. subst (λ (t : List ℕ). get_or t count_at 0 ≤ most_objects) it.0 (s.ensures.1 e) in (
-      search rules,
-      rw (every_take (λ (t : List ℕ). sound_partition a.quarter (partition_view t)) T l.i [] h, l.invariant.1, sound),
+      rw (every_take (λ (t : List ℕ). sound_partition a.quarter (partition_view t)) T l.i [] h, l.invariant.0, sound),
       λ e. rw (every_take objects_fit T l.i [] h)
-          (both (l.invariant.2 (and_l l.r s.result e)) (le-leb (get_or (get_or T l.i []) count_at 0) most_objects (fewer (and_r l.r s.result e)))),
+          (both (l.invariant.1 (and_l l.r s.result e)) (le-leb (get_or (get_or T l.i []) count_at 0) most_objects (fewer (and_r l.r s.result e)))),
     )
 
 pub returns : goal.returns
@@ -61,4 +59,4 @@ returns c =
     let T = tables_in partition_count a.tables.now in
     let n = tables-length partition_count a.tables.now in
     let all = take_all l.i T (omega arith) in
-    ((rw all at l.invariant.1) ∙ every_mapped (sound_partition a.quarter) partition_view T, λ e. rw all at (l.invariant.2 e))
+    ((rw all at l.invariant.0) ∙ every_mapped (sound_partition a.quarter) partition_view T, λ e. rw all at (l.invariant.1 e))

@@ -2,7 +2,7 @@
 use mathlib.Core.Path.{◌≡◌}
 use mathlib.Core.Bool.{true}
 use mathlib.Core.List.{List}
-use Prim.Native.Nat.{ℕ, ◌-◌, ◌≤◌}
+use Prim.Native.Nat.{ℕ}
 use lib.ListN.{take}
 use Rattle.lemmas.specs.Lists.{every}
 use Rattle.rules.specs.Drive.{sound_partition}
@@ -12,8 +12,5 @@ use Rattle.keyring.specs.Keys.{partition_count}
 use Rattle.drive.proofs.row1.sound_tables.Given as goal
 
 abbrev pub invariant-loop-i : goal.invariant-loop-i
-invariant-loop-i l = (l.i ≤ partition_count) × (l.r ≡ every (λ (t : List ℕ). sound_partition l.quarter (partition_view t)) (take l.i (tables_in partition_count l.tables)))
+invariant-loop-i l = (l.r ≡ every (λ (t : List ℕ). sound_partition l.quarter (partition_view t)) (take l.i (tables_in partition_count l.tables)))
     × (l.r ≡ true → every objects_fit (take l.i (tables_in partition_count l.tables)) ≡ true)
-
-abbrev pub decreases-loop-i : goal.decreases-loop-i
-decreases-loop-i l = partition_count - l.i

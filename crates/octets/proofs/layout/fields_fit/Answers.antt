@@ -1,43 +1,27 @@
--- `octets::layout::fields_fit` meets its contract. The loop's invariant: the fields that are left fit into the bytes that are left exactly if all fit.
-use mathlib.Core.Path.{sym, ◌∙◌}
-use mathlib.Core.List.{List}
-use Prim.Native.Nat.{ℕ, ◌+◌}
-use native.Mathlib.Omega.{arith}
-use lib.ListN.{length, get_or, drop}
-use Rattle.lemmas.specs.Tests.{◌isnt◌, ◌over◌, or_l, or_r, tests}
-use Rattle.octets.proofs.FieldLaws.{field_first, fit_end, fit_start, fit_step}
+-- `octets::layout::fields_fit` meets its contract.
+use Rattle.std.proofs.Common.{ℕ, ◌+◌, List, get_or, drop, sym, ◌∙◌, arith}
+use borrow.Author.Tests.{le-ltb, lt-ltb}
+use Rattle.octets.proofs.FieldLaws.{field_first, fit_end, fit_step}
 use Rattle.octets.proofs.layout.fields_fit.Goals as goal
+use Rattle.octets.proofs.layout.fields_fit.Goals.{then-w-gt8-via-then-w-gt8, then-w-gt8-via-else-w-gt8+then-w-rest}
 
-pub returns-then-at-len : goal.returns-then-at-len
-returns-then-at-len c =
-    let a = c.args in sym (fit_start a.len a.at a.widths.now a.count ∙ rw c.if-at-len.true)
-
-pub loop-i-init : goal.loop-i-init
-loop-i-init c =
-    let a = c.args in (omega arith, sym (fit_start a.len a.at a.widths.now a.count ∙ rw c.if-at-len.false))
-
-pub returns-then-w-rest : goal.returns-then-w-rest
-returns-then-w-rest c =
-    let l = c.loop-i in
+pub returns-then-w-gt8 : goal.returns-then-w-gt8
+returns-then-w-gt8 c =
+    let l = c.loop-w in
+    let i : ℕ = l.w-index in
     let ws : List ℕ = c.args.widths.now in
-    sym (fit_step (get_or ws l.i 0) (drop (l.i + 1) ws) l.rest ∙ rw c.if-w-rest.true) ∙ rw (field_first ws l.i (omega arith)) at l.invariant.1
+    let step = fit_step (get_or ws i 0) (drop (i + 1) ws) l.rest in
+    let whole = rw (field_first ws i (omega arith)) at l.invariant in
+    elim c.then-w-gt8.branch [ then-w-gt8-via-then-w-gt8 w ↦ sym (step ∙ rw (lt-ltb _ _ w.if-w-gt8.true)) ∙ whole | then-w-gt8-via-else-w-gt8+then-w-rest w ↦ sym (step ∙ rw (le-ltb _ _ w.if-w-gt8.false, lt-ltb _ _ w.if-w-rest.true)) ∙ whole ]
 
-pub loop-i-preserved : goal.loop-i-preserved
-loop-i-preserved c =
-    let l = c.loop-i in
+pub loop-w-preserved : goal.loop-w-preserved
+loop-w-preserved c =
+    let l = c.loop-w in
+    let i : ℕ = l.w-index in
     let ws : List ℕ = c.args.widths.now in
-    (omega arith, sym (fit_step (get_or ws l.i 0) (drop (l.i + 1) ws) l.rest ∙ rw c.if-w-rest.false) ∙ rw (field_first ws l.i (omega arith)) at l.invariant.1)
+    sym (fit_step (get_or ws i 0) (drop (i + 1) ws) l.rest ∙ rw (le-ltb _ _ c.if-w-gt8.false, le-ltb _ _ c.if-w-rest.false)) ∙ rw (field_first ws i (omega arith)) at l.invariant
 
 pub returns : goal.returns
 returns c =
-    let l = c.loop-i in sym (fit_end c.args.widths.now l.i l.rest (omega arith)) ∙ l.invariant.1
-
-pub overflow_sub-rest : goal.overflow_sub-rest
-overflow_sub-rest c =
-    let a = c.args in omega (tests, or_l (a.at over a.len) (a.count isnt length a.widths.now) c.if-at-len.false)
-
-pub overflow_sub-rest-in-loop-i : goal.overflow_sub-rest-in-loop-i
-overflow_sub-rest-in-loop-i c =
-    let l = c.loop-i in
-    let w : ℕ = get_or c.args.widths.now l.i 0 in
-    omega (tests, or_r (w over 8) (w over l.rest) c.if-w-rest.false)
+    let l = c.loop-w in
+    sym (fit_end c.args.widths.now l.w-index l.rest (omega arith)) ∙ l.invariant

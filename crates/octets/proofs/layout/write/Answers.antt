@@ -1,50 +1,40 @@
--- `octets::layout::write` meets its contract. The loop's invariant: what is left, written behind the fields passed, is what is to be written.
-use mathlib.Core.Path.{refl, sym, ◌∙◌}
-use mathlib.Core.List.{List}
-use Prim.Native.Nat.{ℕ, ◌<◌}
-use native.Mathlib.Omega.{arith}
-use lib.ListN.{length}
-use borrow.Author.Tests.{not-false, not-true}
-use Rattle.octets.proofs.FieldLaws.{ahead_start, ahead_next, field_fits, write_step, write-end}
+-- `octets::layout::write` meets its contract.
+use Rattle.std.proofs.Common.{rules, ◌≡◌, sym, ◌∙◌, ℕ, ◌+◌, List, [], ◌∷◌, ◌++◌, length, arith, length-append}
+use Rattle.std.proofs.lemmas.Slice.Zip.{zip_turn, zip_end}
+use Rattle.octets.proofs.FieldLaws.{ahead_next, field_fits, write_step, write-end}
 use Rattle.octets.proofs.layout.write.Goals as goal
-
-pub returns-then-not-fields_fit : goal.returns-then-not-fields_fit
-returns-then-not-fields_fit c = rw (← c.fields_fit.ensures, not-true c.fields_fit.result c.if-not-fields_fit.true-raw)
-
-pub loop-i-init : goal.loop-i-init
-loop-i-init c =
-    let a = c.args in
-    let t = ahead_start a.widths.now a.at (length a.s.now) (length a.numbers.now) (sym c.fields_fit.ensures ∙ not-false _ c.if-not-fields_fit.false-raw) in
-    (t.1, t.0, refl, refl)
 
 pub put_at-requires : goal.put_at-requires
 put_at-requires c =
-    let l = c.loop-i in
+    let l = c.loop-w in
     let a = c.args in
-    omega (arith, (field_fits a.widths.now l.i l.place (length a.s.now) l.invariant.0 (omega arith)).0, l.invariant.2)
+    let t = zip_turn a.widths.now a.numbers.now l.yielded c.into_iter-w-iterator.result l.w-iterator c.next.new.self c.next.result (search rules) (search rules) l.yielded_by (c.in-Some.w, c.in-Some.x) c.in-Some.is c.next.ensures.steps in
+    omega (arith, t.2 0, (field_fits a.widths.now (length l.yielded) l.place (length a.s.now) l.invariant.0 t.0).0)
 
 pub overflow_add-place : goal.overflow_add-place
 overflow_add-place c =
-    let l = c.loop-i in
+    let l = c.loop-w in
     let a = c.args in
-    omega (arith, (field_fits a.widths.now l.i l.place (length a.s.now) l.invariant.0 (omega arith)).0)
+    let t = zip_turn a.widths.now a.numbers.now l.yielded c.into_iter-w-iterator.result l.w-iterator c.next.new.self c.next.result (search rules) (search rules) l.yielded_by (c.in-Some.w, c.in-Some.x) c.in-Some.is c.next.ensures.steps in
+    omega (arith, t.2 0, (field_fits a.widths.now (length l.yielded) l.place (length a.s.now) l.invariant.0 t.0).0)
 
-pub loop-i-preserved : goal.loop-i-preserved
-loop-i-preserved c =
-    let l = c.loop-i in
+pub loop-w-preserved : goal.loop-w-preserved
+loop-w-preserved c =
+    let l = c.loop-w in
     let a = c.args in
     let ws : List ℕ = a.widths.now in
-    let put = c.put_at in
-    let h : l.i < length ws = omega arith in (
-      ahead_next ws l.i l.place (length a.s.now) l.invariant.0 h,
+    let n = length l.yielded in
+    let t = zip_turn ws a.numbers.now l.yielded c.into_iter-w-iterator.result l.w-iterator c.next.new.self c.next.result (search rules) (search rules) l.yielded_by (c.in-Some.w, c.in-Some.x) c.in-Some.is c.next.ensures.steps in
+    let e : length (l.yielded ++ ((c.in-Some.w, c.in-Some.x) ∷ [])) ≡ n + 1 = length-append l.yielded ((c.in-Some.w, c.in-Some.x) ∷ []) in
+    rw (e, c.put_at.ensures, t.2 0, t.3 0) (
+      ahead_next ws n l.place (length a.s.now) l.invariant.0 t.0,
       l.invariant.1,
-      omega (arith, put.auto.s, l.invariant.2),
-      rw put.ensures (write_step ws l.i l.place (length a.s.now) l.invariant.0 h l.s a.numbers.now (omega (arith, l.invariant.1)) l.invariant.2 ∙ l.invariant.3),
+      write_step ws n l.place (length a.s.now) l.invariant.0 t.0 l.s a.numbers.now t.1 (omega arith) ∙ l.invariant.2,
     )
 
 pub returns : goal.returns
 returns c =
-    let l = c.loop-i in
+    let l = c.loop-w in
     let a = c.args in
-    let fit = sym c.fields_fit.ensures ∙ not-false _ c.if-not-fields_fit.false-raw in
-    rw fit (sym (write-end a.widths.now a.numbers.now l.s l.i l.place (omega arith)) ∙ l.invariant.3)
+    let n = zip_end a.widths.now a.numbers.now l.yielded c.into_iter-w-iterator.result l.w-iterator c.next.new.self c.next.result (search rules) (search rules) l.yielded_by c.in-None.is c.next.ensures.steps in
+    rw (← c.if-not-fields_fit.ensures) (sym (write-end a.widths.now a.numbers.now l.s (length l.yielded) l.place (omega (arith, l.invariant.1))) ∙ l.invariant.2)

@@ -1,10 +1,10 @@
--- `octets::places::put_at` meets its contract. The loop's invariant: from place i on the bytes are written, and those before it are the bytes of what is left of x.
+-- `octets::places::put_at` meets its contract.
 use Prim.Native.Nat.{ℕ, suc, ◌+◌, ◌-◌, ◌%◌, ◌≤◌, ◌<◌}
-use mathlib.Core.Path.{◌≡◌, refl, sym}
+use mathlib.Core.Path.{◌≡◌, sym}
 use mathlib.Core.List.{List, [], ◌∷◌, ◌++◌, append_assoc}
 use native.Mathlib.Nat.{add-suc, add-zero}
 use native.Mathlib.Omega.{arith}
-use lib.ListN.{length, take, drop, set, get_or, length-set, take-append-drop, drop_of_length-le}
+use lib.ListN.{length, take, drop, set, get_or, take-append-drop, drop_of_length-le}
 use lib.Seq.{take-suc, drop-cons, set_at, length-take-le, take_all}
 use Rattle.lemmas.specs.Lists.{splice}
 use Rattle.lemmas.specs.BigEndian.{big_endian, length-big_endian}
@@ -26,10 +26,8 @@ pub loop-i-init : goal.loop-i-init
 loop-i-init c =
     let a = c.args in
     let k : length (big_endian a.n a.x) ≡ a.n = length-big_endian a.n a.x in (
-      omega arith,
       rw (drop_of_length-le (big_endian a.n a.x) {i = a.n} (omega arith)) (sym (take-append-drop (a.at + a.n) a.s.now)),
       take_all a.n (big_endian a.n a.x) (omega arith),
-      refl,
     )
 
 pub loop-i-preserved : goal.loop-i-preserved
@@ -39,11 +37,9 @@ loop-i-preserved c =
     let j : ℕ = l.i - 1 in
     let one : l.i ≡ suc j = omega arith in
     let b : List ℕ = big_endian a.n a.x in
-    let front : take (suc j) b ≡ big_endian (suc j) l.rest = rw one at l.invariant.2 in (
-      omega arith,
-      stored l.s a.s.now b a.at a.n j (l.rest % 256) (omega arith) (omega arith) (length-big_endian a.n a.x) (last_byte b j l.rest front) (rw one at l.invariant.1),
+    let front : take (suc j) b ≡ big_endian (suc j) l.rest = rw one at l.invariant.1 in (
+      stored l.s a.s.now b a.at a.n j (l.rest % 256) (omega arith) (omega arith) (length-big_endian a.n a.x) (last_byte b j l.rest front) (rw one at l.invariant.0),
       first_bytes b j l.rest front,
-      simp length-set l.invariant.3,
     )
 
 pub returns : goal.returns
@@ -52,4 +48,4 @@ returns c =
     let l = c.loop-i in
     let a = c.args in
     let e : l.i ≡ 0 = omega arith in
-    rw (length-big_endian a.n a.x) (rw (e, add-zero) at l.invariant.1)
+    rw (length-big_endian a.n a.x) (rw (e, add-zero) at l.invariant.0)

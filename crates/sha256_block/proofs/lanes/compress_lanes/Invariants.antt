@@ -1,11 +1,8 @@
--- Each turn works the next of the eight blocks in: block_next. K is the table of the code.
-use Rattle.std.proofs.Common.{◌≡◌, ℕ, ◌-◌, ◌≤◌, List, length}
+-- Each turn works the next of the eight blocks in.
+use Rattle.std.proofs.Common.{◌≡◌, ℕ, ◌≤◌, List, length}
 use Rattle.sha256_block.specs.Sha256.{blocks}
 use Rattle.sha256_block.specs.Lanes.{Lanes}
 use Rattle.sha256_block.proofs.lanes.compress_lanes.Given as goal
 
 abbrev pub invariant-loop-l : goal.invariant-loop-l
-invariant-loop-l l = (l.l ≤ 8) × ((m : List ℕ) → Lanes 512 l.w m → 512 ≤ length m → l.v ≡ blocks l.l l.initial.v m)
-
-abbrev pub decreases-loop-l : goal.decreases-loop-l
-decreases-loop-l l = 8 - l.l
+invariant-loop-l l = (m : List ℕ) → Lanes 512 l.w m → 512 ≤ length m → l.v ≡ blocks l.l l.initial.v m

@@ -6,12 +6,4 @@ pub returns : goal.returns
 returns c =
     let a = c.args in
     let h = c.requires in
-    λ m known.
-    rw (
-      c.wrapping_add_u32-3.ensures.value,
-      c.wrapping_add_u32-2.ensures.value,
-      c.shifts0.ensures,
-      c.wrapping_add_u32.ensures.value,
-      c.shifts1.ensures,
-    )
-    (lanes_next a.w.now m a.p h.0 h.1 known)
+    λ m known. rw (c.small0.ensures, c.small1.ensures) (lanes_next a.w.now m a.p h.0 h.1 known)

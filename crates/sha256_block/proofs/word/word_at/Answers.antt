@@ -6,4 +6,4 @@ use Rattle.sha256_block.proofs.word.word_at.Goals as goal
 pub returns : goal.returns
 returns c =
     let a = c.args in
-    c.joined.ensures ∙ word_at a.s.now a.at
+    c.from_be_bytes.ensures ∙ word_at a.s.now a.at

@@ -1,9 +1,0 @@
--- The smaller of a number and a length counts bytes that are there.
-use mathlib.Core.Path.{sym}
-use lib.Seq.{length-take-le}
-use borrow.Author.Rules.{rules}
-use Rattle.drive_replay.proofs.text.flush.Goals as goal
-
-pub slice_bounds-write_all-end : goal.slice_bounds-write_all-end
-slice_bounds-write_all-end c =
-    sym (length-take-le _ _ (search rules))

@@ -1,9 +1,0 @@
--- The place goes up to the last number.
-use Rattle.std.proofs.Common.{◌-◌, ◌≤◌, length}
-use Rattle.scenario.proofs.say.numbers.Given as goal
-
-abbrev pub invariant-loop-i : goal.invariant-loop-i
-invariant-loop-i l = l.i ≤ length l.xs
-
-abbrev pub decreases-loop-i : goal.decreases-loop-i
-decreases-loop-i l = length l.xs - l.i

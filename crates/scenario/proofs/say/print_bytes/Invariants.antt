@@ -1,6 +1,0 @@
--- One byte fewer is left each time.
-use Rattle.std.proofs.Common.{length, ◌-◌}
-use Rattle.scenario.proofs.say.print_bytes.Given as goal
-
-abbrev pub decreases-loop-i : goal.decreases-loop-i
-decreases-loop-i l = length l.bytes - l.i
