@@ -1,6 +1,5 @@
 // The rows of the issuer and the builder, 26, 28 and 29, and the parts of a frame put together.
 ghost use Rattle.std.specs.Prelude.{◌≡◌, List, ◌++◌, ℕ, ◌+◌, ◌≤◌, length};
-ghost use Rattle.octets.specs.Numbers.{bytes_put};
 ghost use Rattle.lemmas.specs.Lists.{splice};
 ghost use Rattle.lemmas.specs.RowTable.{first_row};
 ghost use Rattle.digest.specs.Hmac.{hmac};
@@ -57,20 +56,6 @@ pub fn frame_digest(
     mac::of3(key, credential, request, bytes)
 }
 
-// Copies bytes into space from place at on; where they do not fit, nothing is written.
-// Kept for the C interface: a loop, and not `octets::copy_to`, since the library's copy asks the program for memmove, and the archives
-// want no more of it than memcpy and memset (tests/c/archives.sh).
-fn put(space: &mut [u8], at: usize, bytes: &[u8])
-    ensures { space.new ≡ bytes_put space.old at bytes.now }
-{
-    if !octets::fits(space.len(), at, bytes.len()) {
-        return;
-    }
-    for (i, b) in bytes.iter().enumerate() {
-        space[at + i] = *b;
-    }
-}
-
 // The four parts of a frame, one after the other, at the start of the space; and how long they are together.
 pub fn join(
     credential: &[u8],
@@ -82,12 +67,12 @@ pub fn join(
     requires { length credential.now + length request.now + length bytes.now + digest_size ≤ length space.old }
     ensures { (result ≡ length credential.now + length request.now + length bytes.now + digest_size) × (space.new ≡ splice space.old 0 (credential.now ++ (request.now ++ (bytes.now ++ digest.now)))) }
 {
-    put(space, 0, credential);
+    octets::copy_to(space, 0, credential);
     let at = credential.len();
-    put(space, at, request);
+    octets::copy_to(space, at, request);
     let at = at + request.len();
-    put(space, at, bytes);
+    octets::copy_to(space, at, bytes);
     let at = at + bytes.len();
-    put(space, at, digest);
+    octets::copy_to(space, at, digest);
     at + DIGEST_SIZE
 }

@@ -4,22 +4,7 @@
 #![tactic(auto)]
 
 ghost use Rattle.std.specs.Prelude.{◌≡◌, ◌&&◌, cond, ◌+◌, length, replicate, leb};
-ghost use Rattle.octets.specs.Numbers.{bytes_put};
 ghost use Rattle.lemmas.specs.Lists.{part, splice};
-
-// Copies bytes into space from place at on; where they do not fit, nothing is written.
-// Kept for the C interface: a loop, and not `octets::copy_to`, since the library's copy asks the program for memmove, and the archives
-// want no more of it than memcpy and memset (tests/c/archives.sh).
-fn put(space: &mut [u8], at: usize, bytes: &[u8])
-    ensures { space.new ≡ bytes_put space.old at bytes.now }
-{
-    if !octets::fits(space.len(), at, bytes.len()) {
-        return;
-    }
-    for (i, b) in bytes.iter().enumerate() {
-        space[at + i] = *b;
-    }
-}
 
 // Kept, the new form is no plainer: here and below places in the medium, as octets has them, since they may lie outside.
 // Operation 2: the bytes replace those from the offset on of the extent of `size` bytes from `start` on.
@@ -32,7 +17,7 @@ pub fn write_extent(medium: &mut [u8], start: usize, size: usize, offset: usize,
     if !octets::fits(medium.len(), start, size) {
         return;
     }
-    put(&mut medium[start..start + size], offset, bytes);
+    octets::copy_to(&mut medium[start..start + size], offset, bytes);
 }
 
 // Format: every byte becomes 0.
@@ -64,5 +49,5 @@ pub fn read_extent(medium: &[u8], start: usize, count: usize, space: &mut [u8], 
     if !octets::fits(medium.len(), start, count) {
         return;
     }
-    put(space, at, &medium[start..start + count]);
+    octets::copy_to(space, at, &medium[start..start + count]);
 }

@@ -1,3 +1,2 @@
 -- Laws for the loops over fields.
-pub mod Copies
 mod FieldLaws

@@ -29,10 +29,13 @@ pub fn put_at(s: &mut [u8], at: usize, n: usize, x: u64)
 }
 
 // Copies bytes into s from place at on.
-#[tactic(auto, using(crate::proofs::Copies::copies))]
+// Kept for the C interface: a loop, since the library's copy asks the program for memmove, and the archives want no more of it than
+// memcpy and memset (tests/c/archives.sh).
 pub fn copy_at(s: &mut [u8], at: usize, bytes: &[u8])
     requires { at + length bytes.now ≤ length s.old }
     ensures { s.new ≡ splice s.old at bytes.now }
 {
-    s[at..at + bytes.len()].copy_from_slice(bytes);
+    for (i, b) in bytes.iter().enumerate() {
+        s[at + i] = *b;
+    }
 }

@@ -20,4 +20,4 @@ returns c =
     let k : a.start + a.count ≤ length a.medium.now = leb-true (a.start + a.count) (length a.medium.now) passed in
     let fit : (a.start + a.count) - a.start ≡ a.count = omega arith in
     let size : length (take a.count (drop a.start a.medium.now)) ≡ a.count = simp (length-take, length-drop) (omega arith) in
-    rw (passed, c.put.ensures, fit, size)
+    rw (passed, c.copy_to.ensures, fit, size)

@@ -18,5 +18,5 @@ returns c =
     let passed : leb (a.start + a.size) (length a.medium.now) ≡ true = sym c.fits.ensures ∙ not-false c.fits.result c.if-not-fits.false-raw in
     let k : a.start + a.size ≤ length a.medium.now = leb-true (a.start + a.size) (length a.medium.now) passed in
     let fit : (a.start + a.size) - a.start ≡ a.size = omega arith in
-    rw (passed, c.put.ensures, fit)
+    rw (passed, c.copy_to.ensures, fit)
     (put_part a.medium.now a.start a.size a.offset a.bytes.now k)

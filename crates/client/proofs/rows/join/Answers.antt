@@ -12,10 +12,10 @@ returns c =
     let long : length a.digest.now ≡ digest_size = search rules in (
       refl,
       rw (
-        c.put-4.ensures,
-        c.put-3.ensures,
-        c.put-2.ensures,
-        c.put.ensures,
+        c.copy_to-4.ensures,
+        c.copy_to-3.ensures,
+        c.copy_to-2.ensures,
+        c.copy_to.ensures,
       )
           (four-parts a.space.now a.credential.now a.request.now a.bytes.now a.digest.now long c.requires),
     )

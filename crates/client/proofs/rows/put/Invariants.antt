@@ -1,7 +1,0 @@
--- The bytes passed are pasted.
-use Rattle.std.proofs.Common.{◌≡◌}
-use lib.Seq.{paste}
-use Rattle.client.proofs.rows.put.Given as goal
-
-abbrev pub invariant-loop-i : goal.invariant-loop-i
-invariant-loop-i l = l.space ≡ paste l.initial.space l.at l.bytes l.i
