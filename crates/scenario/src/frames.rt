@@ -96,16 +96,16 @@ fn build_with(
     client::build(&bytes, &request[..size], data, &secret, space)
 }
 
-// Writes the frame of a call's line; its data is the line's text, a load's table, or a list. B counts the bytes that are
-// written.
+// Writes the frame of a call's line with these numbers; its data is the line's text, a load's table, or a list. B counts the bytes that
+// are written.
 pub fn build(
     s: &Settings,
     call: Call,
     line: Line,
+    numbers: [u64; LINE_NUMBERS],
     key: &[u8],
     space: &mut [u8],
 ) -> Result<usize, Refusal> {
-    let numbers = line.head().numbers();
     let [a, b, ..] = numbers;
     let number = call.operation();
     match call {

@@ -1,5 +1,5 @@
 // Where a script stands: the line that is played, and what stays from line to line.
-use crate::script::{Line, Lines};
+use crate::script::{LINE_NUMBERS, Line, Lines};
 use crate::settings::Settings;
 use crate::words::Word;
 use crate::{record, say};
@@ -11,14 +11,15 @@ use std::io::Stdout;
 // The key of a stranger.
 const STRANGE_KEY: [u8; KEY_SIZE] = [9; KEY_SIZE];
 
-// `rest` has the lines to play next, `back` those behind the `do` that led to this part; `word` is none where the line's is
-// not one of a script; `kept` is the key that was kept.
+// `rest` has the lines to play next, `back` those behind the `do` that led to this part; `numbers` are the line's, read once, but for a
+// line that sets numbers; `word` is none where the line's is not one of a script; `kept` is the key that was kept.
 #[derive(Drop)]
 pub struct Player<'a> {
     script: Lines<'a>,
     rest: Lines<'a>,
     back: Option<Lines<'a>>,
     pub line: Line<'a>,
+    pub numbers: [u64; LINE_NUMBERS],
     pub word: Option<Word>,
     pub settings: Settings,
     pub kept: [u8; KEY_SIZE],
@@ -33,6 +34,7 @@ impl<'a> Player<'a> {
             rest: lines,
             back: None,
             line: Line::empty(),
+            numbers: [0; LINE_NUMBERS],
             word: None,
             settings: Settings::default(),
             kept: [0; KEY_SIZE],
@@ -59,7 +61,7 @@ impl<'a> Player<'a> {
                 self.rest = self.script.part(head);
             }
             Some(Word::Done) => self.rest = self.back.take().unwrap_or(Lines::end()),
-            _ => {}
+            _ => self.numbers = head.numbers(),
         }
     }
 
@@ -67,7 +69,7 @@ impl<'a> Player<'a> {
     pub fn show(&self, out: Stdout, drive: &Drive) -> io::Result<()> {
         let line = self.line.bytes();
         let label = self.line.word();
-        let [a, b, ..] = self.line.head().numbers();
+        let [a, b, ..] = self.numbers;
         match self.word {
             None => say::error(out, line),
             Some(Word::Title) => say::line(out, line),

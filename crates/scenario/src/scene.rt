@@ -73,8 +73,9 @@ impl Scene {
     fn build(&mut self, call: Call, player: &mut Player) {
         let key = player.signing_key(&self.drive);
         let line = player.line;
+        let numbers = player.numbers;
         let settings = &mut player.settings;
-        let length = frames::build(settings, call, line, &key, &mut self.frame);
+        let length = frames::build(settings, call, line, numbers, &key, &mut self.frame);
         settings.length = length.unwrap_or(0) as u64;
         settings.count = settings.count.wrapping_add(1);
         settings.time = settings.time.wrapping_add(settings.pace);
@@ -105,7 +106,7 @@ impl Scene {
 
     // Does what the player's line says. A call or a format answers how long its reply is, or its refusal.
     pub fn act(&mut self, player: &mut Player) -> Option<Result<usize, Refusal>> {
-        let numbers = player.line.head().numbers();
+        let numbers = player.numbers;
         let [a, b, ..] = numbers;
         match player.word? {
             Word::Call(call) => {

@@ -32,9 +32,14 @@ fn digit(c: u8) -> Option<u8> {
 
 // The number that the digits at the start spell, 0 where there are none; the largest number where that is too large.
 pub fn number(word: &[u8]) -> u64 {
-    word.iter().map_while(|c| digit(*c)).fold(0u64, |x, d| {
-        x.saturating_mul(10).saturating_add(u64::from(d))
-    })
+    let mut x = 0u64;
+    for c in word {
+        let Some(d) = digit(*c) else {
+            break;
+        };
+        x = x.saturating_mul(10).saturating_add(u64::from(d));
+    }
+    x
 }
 
 // The words of a line that are left.
