@@ -25,12 +25,16 @@ pub const GROUP_REQUEST_SIZE: usize = 32;
 
 pub const LEAST_FRAME: usize = CREDENTIAL_SIZE + REQUEST_SIZE + rules::DIGEST_SIZE;
 
-// The layouts: the fields' widths in bytes, in their order; and how many fields the longest request has.
+// The layouts: the fields' widths in bytes, in their order; and how many fields each has.
 pub const CREDENTIAL_WIDTHS: [usize; 12] = [2, 1, 1, 4, 4, 2, 1, 1, 4, 4, 8, 4];
 
 pub const REQUEST_WIDTHS: [usize; 8] = [2, 1, 1, 8, 4, 4, 4, 4];
 
 pub const GROUP_WIDTHS: [usize; 9] = [2, 1, 1, 8, 4, 4, 4, 4, 4];
+
+pub const CREDENTIAL_FIELDS: usize = CREDENTIAL_WIDTHS.len();
+
+pub const REQUEST_FIELDS: usize = REQUEST_WIDTHS.len();
 
 pub const GROUP_FIELDS: usize = GROUP_WIDTHS.len();
 

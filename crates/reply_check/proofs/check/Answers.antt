@@ -1,8 +1,8 @@
--- Row 0 and the part after the head by `check-granted`, its end inside the reply by `check-end`; or the row and nothing by `check-refused`.
+-- Row 0 and the part after the head by `check-granted`, its end inside the reply by `check-end`; or the row and nothing by `check_refused_by`.
 use Rattle.std.proofs.Common.{◌≡◌, ◌∙◌, ◌+◌, ◌-◌, ℕ, arith, ap, refl, sym, take, drop}
 use Rattle.lemmas.specs.Lists.{part}
 use Rattle.rules.specs.Operations.{head_size, result_length}
-use Rattle.reply_check.specs.CheckLaws.{check-end, check-granted, check-refused}
+use Rattle.reply_check.specs.CheckLaws.{check-end, check-granted, check_refused_by}
 use Rattle.reply_check.specs.Met.{place_after}
 use Rattle.rules.proofs.Refused.{handed_on}
 use Rattle.reply_check.proofs.check.Goals as goal
@@ -11,7 +11,7 @@ pub returns-in_err-check_row : goal.returns-in_err-check_row
 returns-in_err-check_row c =
     let a = c.args in
     rw (handed_on c.from_residual.result _ c.from_residual.ensures.1)
-    (check-refused a.credential.now a.request.now a.key.now a.reply _ _ c.in_err-check_row.ensures refl refl)
+    (check_refused_by a.credential.now a.request.now a.key.now a.reply _ _ c.in_err-check_row.ensures refl refl)
 
 pub slice_bounds-result-end : goal.slice_bounds-result-end
 slice_bounds-result-end c =

@@ -5,7 +5,7 @@ use Rattle.lemmas.specs.RowTable.{row_next}
 use Rattle.rules.proofs.Refused.{passed_tells, row_handed_on, row_last, row_passed, row_refused}
 use Rattle.rules.specs.Client.{check_rows}
 use Rattle.fields.specs.Records.{request_in}
-use Rattle.reply_check.specs.CheckLaws.{check_late, either_row, row28}
+use Rattle.reply_check.specs.CheckLaws.{either_row, row28, row30_as_read}
 use Rattle.reply_check.proofs.check_row.Goals as goal
 
 pub returns-in_err-refuse : goal.returns-in_err-refuse
@@ -27,6 +27,6 @@ returns c =
     let none : row28 a.credential.now a.request.now (request_in a.request.now 0) ≡ false =
     rw (← c.request_in-r.ensures, ← c.bad_records.ensures, ← c.result_length.ensures)
     (passed_tells _ _ _ c.in_ok-refuse-2.ensures) in
-    rw (c.refuse-3.ensures, c.wrong_reply.ensures, c.request_in-r.ensures, check_late a.credential.now a.request.now a.key.now a.reply.now none)
+    rw (c.refuse-3.ensures, c.wrong_reply.ensures, c.request_in-r.ensures, row30_as_read a.credential.now a.request.now a.key.now a.reply.now none)
     (row_last _ _
     ∙ sym (row_passed _ _ _ _ c.in_ok-refuse.ensures ∙ row_next _ _ (sym (either_row a.credential.now a.request.now a.key.now a.reply.now) ∙ none)))
