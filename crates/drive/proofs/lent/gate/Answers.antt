@@ -240,7 +240,8 @@ returns-in_err-given c =
     c.is_replayed-replayed.result c.is_replayed-replayed.ensures in
     let e = c.in_err-given.field-0.0 in
     let h = handed_on _ e c.from_residual.ensures.1 in
-    met_refused o (c.in_err-given.ensures (mem o) (ready o)) (row_not_zero e) _ (ap answer_row h) (ap answer_length h) refl
+    let was : c.admit.result ≡ Err e = search rules in
+    met_refused o (rw was at (c.admit.ensures (mem o) (ready o))) (row_not_zero e) _ (ap answer_row h) (ap answer_length h) refl
 
 pub change_keys-requires : goal.change_keys-requires
 change_keys-requires c = starts_hold (parsed-of c.args.frame.now c.in-Ok.fields.credential c.in-Ok.fields.request c.in-Ok.ensures)
@@ -264,10 +265,11 @@ enter-requires c =
     c.passes_row1.result c.passes_row1.ensures c.if-not-passes_row1.false a.clock c.max-mark.result l.lengths l.entries l.times
     c.max-mark.ensures c.drop_outlived.ensures a.frame.now c.in-Ok.fields.credential c.in-Ok.fields.request c.in-Ok.ensures
     c.memory_of-k.result c.memory_of-k.ensures c.entry_of-nonce.result c.entry_of-nonce.ensures
-    c.is_replayed-replayed.result c.is_replayed-replayed.ensures in (
+    c.is_replayed-replayed.result c.is_replayed-replayed.ensures in
+    let was : c.admit.result ≡ Ok c.in_ok-given.given = search rules in (
       c.drop_outlived.ensures.1,
       low-memory a.frame.now c.in-Ok.fields.credential c.in-Ok.fields.request c.in-Ok.ensures c.memory_of-k.result c.memory_of-k.ensures,
-      has_room o (c.in_ok-given.ensures (mem o) (ready o)) refl,
+      has_room o (rw was at (c.admit.ensures (mem o) (ready o))) refl,
     )
 
 pub returns : goal.returns
@@ -288,6 +290,7 @@ returns c =
     c.memory_of-k.result c.memory_of-k.ensures c.entry_of-nonce.result c.entry_of-nonce.ensures
     c.is_replayed-replayed.result c.is_replayed-replayed.ensures in
     let n = c.enter.new in
-    met_granted o (c.in_ok-given.ensures (mem o) (ready o)) refl c.change_keys.new.keys c.change_table.new.table
+    let was : c.admit.result ≡ Ok c.in_ok-given.given = search rules in
+    met_granted o (rw was at (c.admit.ensures (mem o) (ready o))) refl c.change_keys.new.keys c.change_table.new.table
     c.change_keys.ensures (c.change_table.ensures.table (long_part o)) c.entry_of-nonce.result c.entry_of-nonce.ensures
     n.lengths n.entries n.times c.enter.ensures _ refl
